@@ -1,0 +1,9 @@
+pub mod Digits
+pub mod Rounding
+pub mod Packing
+pub mod Values
+pub mod Placing
+pub mod Jamming
+pub mod Combining
+pub mod Roots
+pub mod RootCases

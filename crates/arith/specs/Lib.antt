@@ -1,0 +1,5 @@
+pub mod Digit
+pub mod Pattern
+pub mod Root
+pub mod Fused
+pub mod Parts

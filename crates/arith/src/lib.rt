@@ -1,0 +1,44 @@
+// Arithmetic below everything: the square root and the fused multiply-add of `f32`, each equal to
+// its definition over whole numbers for every input. All of it is integers on bit patterns.
+mod multiply_add;
+mod pattern;
+mod square_root;
+
+ghost use mathlib.Core.Path.{_≡_};
+ghost use Rattle.arith.specs.Root.{root};
+ghost use Rattle.arith.specs.Fused.{fma};
+
+// The `f32` nearest to the square root of x. A zero is its own root, and a number below zero has none.
+pub fn root(x: f32) -> f32
+    ensures { λ r. ⌜ r ≡ root x ⌝ }
+{
+    if x != x {
+        return x;
+    }
+    let bits = f32::to_bits(x);
+    if bits == 0 {
+        return x;
+    }
+    if bits < 0x7f80_0000 {
+        return square_root::above_zero(bits);
+    }
+    // +infinity, and -0
+    if bits <= 0x8000_0000 {
+        return x;
+    }
+    0.0 / 0.0
+}
+
+// a * b + c, rounded once.
+pub fn fused(a: f32, b: f32, c: f32) -> f32
+    ensures { λ r. ⌜ r ≡ fma a b c ⌝ }
+{
+    if pattern::is_finite(a) && pattern::is_finite(b) {
+        if pattern::is_finite(c) {
+            return multiply_add::exact(a, b, c);
+        }
+        return c;
+    }
+    // nothing is rounded here
+    a * b + c
+}
