@@ -7,3 +7,6 @@ pub mod Jamming
 pub mod Combining
 pub mod Roots
 pub mod RootCases
+pub mod NoNearer
+pub mod Laws
+pub mod Bench

@@ -126,10 +126,13 @@ module _ (n A j s q : ℕ) (e : n ≡ A * (2 ^ j * 2 ^ j)) (f : Floor n s) (g : 
       ∙ one-digit binary32 false 1 j q rest rest-lt l
       ∙ ap (λ (x : ℕ). round binary32 false ((q * 2 + x) * 2 ^ j) (2 ^ 150)) flags
 
+pub times-next : (r : ℕ) → r * (r + 1) ≡ r * r + r
+times-next r = mul-add r r 1 ∙ ap (λ (x : ℕ). r * r + x) (mul-one r)
+
 -- ---- r nearest to the root of a, and q the whole part of the root of 4 * a: twice q and the digit lie next to 4 * r
 module _ (a r q : ℕ) (N : NearestRoot a r) (g : Floor (4 * a) q) (rp : 0 < r) where
   q-le : q ≤ 2 * r
-  q-le = le-of-suc-le-suc (lt-root (4 * a) q g (suc (2 * r)) (omega (arith, N .below, suc-square (2 * r), double r)))
+  q-le = le-of-suc-le-suc (lt-root (4 * a) q g (suc (2 * r)) (omega (arith, N .below, times-next r, suc-square (2 * r), double r)))
 
   w-le : (w : ℕ) → w + 1 ≡ 2 * r → (w ≤ q) × (w * w < 4 * a)
   w-le w e =
@@ -168,7 +171,7 @@ module _ (a r : ℕ) (N : NearestRoot a r) where
   root-ge l = le-of-suc-le-suc (lt-of-not-le (λ (h : suc r ≤ 2 ^ 23). no h))
     where
       no : suc r ≤ 2 ^ 23 → ⊥
-      no h = omega (arith, N .below, mul-le-mul h h, suc-square r)
+      no h = omega (arith, N .below, times-next r, mul-le-mul h h, suc-square r)
 
   pub root-lt : a ≤ 2 ^ 48 - 2 ^ 24 → r < 2 ^ 24
   root-lt l = lt-of-not-le (λ (h : 2 ^ 24 ≤ r). no h)

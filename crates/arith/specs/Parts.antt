@@ -15,7 +15,7 @@ pub record Placed (sig exp top m e : ℕ) : Type 0 where
 -- a whole number whose square is nearest to a: the root of a lies between r - 1/2 and r + 1/2
 pub record NearestRoot (a r : ℕ) : Type 0 where
   pub above : r * r < a + r
-  pub below : a ≤ r * r + r
+  pub below : a ≤ r * (r + 1)
 
 -- an operand of the sum: zero, or with its leading digit at 2 ^ 60 or 2 ^ 61; at least fourteen zeros at its end
 pub record Ready (sig exp : ℕ) : Type 0 where

@@ -83,7 +83,8 @@ pub(crate) fn nearest(x: u64, sh: u32) -> u64
         return 0;
     }
     let half = 1u64 << (sh - 1);
-    (x + (half - 1) + (x >> sh) % 2) >> sh
+    let odd = (x >> sh) % 2;
+    (x + half - 1 + odd) >> sh
 }
 
 fn cap(m: u64) -> u32

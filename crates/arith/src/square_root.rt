@@ -175,7 +175,7 @@ fn raised(a: u64, r: u64) -> u64
     ensures { λ q. ⌜ NearestRoot a q ⌝ }
 {
     let mut q = r;
-    while q * q + q < a {
+    while q * (q + 1) < a {
         q += 1;
     }
     q
@@ -189,7 +189,7 @@ fn nearest_root(m: u64, odd: u64) -> u64
     let a = m << (23 + odd);
     let r = guess(m, odd);
     if r * r < a + r {
-        if a <= r * r + r {
+        if a <= r * (r + 1) {
             return r;
         }
     }

@@ -31,7 +31,8 @@ returns-2 c =
     let s = c .before .args .sh in
     let h = 2 ^ (s - 1) in
     let t : h * 2 ≡ 2 ^ s = half-twice s (c .before .pre .1) in
-    ap (λ (y : ℕ). (x + (y - 1) + x / 2 ^ s % 2) / 2 ^ s) (half-is c)
+    ap (λ (y : ℕ). (x + y - 1 + x / 2 ^ s % 2) / 2 ^ s) (half-is c)
+    ∙ ap (λ (y : ℕ). (y + x / 2 ^ s % 2) / 2 ^ s) (let p : 0 < h = half-pos c in let g : x + h - 1 ≡ x + (h - 1) = omega arith in g)
     ∙ ap (λ (y : ℕ). (x + (h - 1) + x / y % 2) / y) (sym t)
     ∙ halved x h (x / (h * 2)) (x % (h * 2)) (pow-pos (s - 1)) refl refl
     ∙ ap (λ (y : ℕ). closest x y) t
@@ -44,9 +45,9 @@ nearest-spec =
     (λ c. search needs)
     (λ c. search needs)
     (λ c. search needs)
-    (λ c. omega (arith, half-is c, half-pos c))
-    (λ c. omega (arith, half-is c, half-le c))
     (λ c. search needs)
+    (λ c. omega (arith, half-is c, half-le c))
+    (λ c. omega (arith, half-is c, half-pos c))
     (λ c. omega (arith, half-is c, half-le c))
     (λ c. search needs)
     returns-2)
