@@ -5,13 +5,11 @@ use Prim.Native.Nat.{ℕ, zero, suc, _+_, _-_, _*_, _/_, _%_, _^_, _≤_, _<_, m
 use native.Mathlib.Nat.{le-trans, le-of-eq, le-of-lt, zero-mod, mod-mod-of-dvd, dvd-mul-right, mul-lt-mul-of-pos-right, lt-of-mul-lt-mul-right, add-mul}
 use native.Mathlib.Omega.{arith}
 use mathlib.Core.Bool.{Bool, true, false, not, _&&_, Bool·beq, cond}
-use lib.Dec.{T, ltb, ltb→lt, lt→ltb, nltb→le}
-use lib.Arith.{le→nltb}
+use lib.Dec.{T, ltb, ltb→lt, nltb→le}
 use lib.Pow.{pow-pos, pow-add, shr-shr, shr-le}
 use lib.Ieee.{Float, Format, binary32, round, sum}
-use lib.Ieee.Bits.{is-true, is-false}
 use Rattle.arith.specs.Digit.{jam}
-use Rattle.arith.specs.Parts.{Ready, Summed}
+use Rattle.arith.specs.Parts.{Ready, Summed, sumSign, sumSize}
 use Rattle.arith.proofs.Jamming.{jam-up, jam-le, jam-none, jam-zero, far, whole}
 use Rattle.arith.proofs.Values.{cross-test, sub-mul, sum-comm}
 
@@ -125,53 +123,44 @@ module _ (s t : Bool) (a ex b ey : ℕ) (ra : Ready a ex) (rb : Ready b ey) wher
         lead = elim lead-of [ inl z ↦ inl (let u : jam a (E - ex) ≡ 0 = zero-jam a (E - ex) (z .0) in let v : jam b (E - ey) ≡ 0 = zero-jam b (E - ey) (z .1) in omega arith) | inr p ↦ inr p ];
       }
 
--- ---- the sum of a and b in units of p, as `combine` tells its cases apart
-module _ (s t : Bool) (a b p : ℕ) (pp : 0 < p) where
-  by-tests : (x y : Bool) → ltb a b ≡ x → ltb b a ≡ y
-      → Sum s t (a * p) (b * p) ≡ cond (Bool·beq s t) (round binary32 s ((a + b) * p) (2 ^ 426)) (cond x (round binary32 t ((b - a) * p) (2 ^ 426)) (round binary32 (s && y) ((a - b) * p) (2 ^ 426)))
+-- ---- the sum of a and b in units of p, by its sign and its size
+module _ (a b p : ℕ) (pp : 0 < p) where
+  scaled : (u v : ℕ) → ltb (u * p) (v * p) ≡ ltb u v
+  scaled u v = cross-test (u * p) (v * p) p u v 1 pp (omega arith) (omega arith) (omega arith)
+
+  -- equal signs: whichever part is larger, its sign is the same
+  one-sign : (x y s : Bool) → cond x s (cond y s s) ≡ s
+  one-sign true y s = refl
+  one-sign false true s = refl
+  one-sign false false s = refl
+
+  -- unlike signs, by the two tests
+  gap : (s t x y : Bool) → (s && t) ≡ false → ltb a b ≡ x → ltb b a ≡ y
+      → cond (ltb (a * p) (b * p)) (round binary32 t (b * p - a * p) (2 ^ 426)) (round binary32 (s && ltb (b * p) (a * p)) (a * p - b * p) (2 ^ 426))
+      ≡ round binary32 (cond x t (cond y s (s && t))) (cond x (b - a) (a - b) * p) (2 ^ 426)
+  gap s t x y n ex ey =
+      ap₂ (λ (u v : Bool). cond u (round binary32 t (b * p - a * p) (2 ^ 426)) (round binary32 (s && v) (a * p - b * p) (2 ^ 426))) (scaled a b ∙ ex) (scaled b a ∙ ey)
+      ∙ go x y s n
+    where
+      go : (x y s : Bool) → (s && t) ≡ false
+          → cond x (round binary32 t (b * p - a * p) (2 ^ 426)) (round binary32 (s && y) (a * p - b * p) (2 ^ 426)) ≡ round binary32 (cond x t (cond y s (s && t))) (cond x (b - a) (a - b) * p) (2 ^ 426)
+      go true y s n = ap (λ (k : ℕ). round binary32 t k (2 ^ 426)) (sub-mul b a p)
+      go false true true n = ap (λ (k : ℕ). round binary32 true k (2 ^ 426)) (sub-mul a b p)
+      go false true false n = ap (λ (k : ℕ). round binary32 false k (2 ^ 426)) (sub-mul a b p)
+      go false false true n = ap₂ (λ (q : Bool) (k : ℕ). round binary32 q k (2 ^ 426)) (sym n) (sub-mul a b p)
+      go false false false n = ap (λ (k : ℕ). round binary32 false k (2 ^ 426)) (sub-mul a b p)
+
+  pub settled : (s t : Bool) → Sum s t (a * p) (b * p) ≡ round binary32 (sumSign s a t b) (sumSize s a t b * p) (2 ^ 426)
   unfolding sum
-  by-tests x y ex ey =
-      ap₂ (λ (u v : Float). cond (Bool·beq s t) u v) (ap (λ (k : ℕ). round binary32 s k (2 ^ 426)) (sym (add-mul a b p)))
-      (ap₂ (λ (u v : Float). cond (ltb (a * p) (b * p)) u v) (ap (λ (k : ℕ). round binary32 t k (2 ^ 426)) (sub-mul b a p))
-      (ap (λ (k : ℕ). round binary32 (s && ltb (b * p) (a * p)) k (2 ^ 426)) (sub-mul a b p) ∙ ap (λ (q : Bool). round binary32 (s && q) ((a - b) * p) (2 ^ 426)) (scaled b a ∙ ey))
-      ∙ ap (λ (q : Bool). cond q (round binary32 t ((b - a) * p) (2 ^ 426)) (round binary32 (s && y) ((a - b) * p) (2 ^ 426))) (scaled a b ∙ ex))
-    where
-      scaled : (u v : ℕ) → ltb (u * p) (v * p) ≡ ltb u v
-      scaled u v = cross-test (u * p) (v * p) p u v 1 pp (omega arith) (omega arith) (omega arith)
+  settled true true = ap₂ (λ (q : Bool) (k : ℕ). round binary32 q k (2 ^ 426)) (sym (one-sign (ltb a b) (ltb b a) true)) (sym (add-mul a b p))
+  settled false false = ap₂ (λ (q : Bool) (k : ℕ). round binary32 q k (2 ^ 426)) (sym (one-sign (ltb a b) (ltb b a) false)) (sym (add-mul a b p))
+  settled true false = gap true false (ltb a b) (ltb b a) refl refl refl
+  settled false true = gap false true (ltb a b) (ltb b a) refl refl refl
 
-  pub like : Bool·beq s t ≡ true → Sum s t (a * p) (b * p) ≡ round binary32 s ((a + b) * p) (2 ^ 426)
-  like e =
-      by-tests (ltb a b) (ltb b a) refl refl
-      ∙ ap (λ (q : Bool). cond q (round binary32 s ((a + b) * p) (2 ^ 426)) (cond (ltb a b) (round binary32 t ((b - a) * p) (2 ^ 426)) (round binary32 (s && ltb b a) ((a - b) * p) (2 ^ 426)))) e
-
-  unlike : (x y : Bool) → ltb a b ≡ x → ltb b a ≡ y → Bool·beq s t ≡ false
-      → Sum s t (a * p) (b * p) ≡ cond x (round binary32 t ((b - a) * p) (2 ^ 426)) (round binary32 (s && y) ((a - b) * p) (2 ^ 426))
-  unlike x y ex ey e =
-      by-tests x y ex ey
-      ∙ ap (λ (q : Bool). cond q (round binary32 s ((a + b) * p) (2 ^ 426)) (cond x (round binary32 t ((b - a) * p) (2 ^ 426)) (round binary32 (s && y) ((a - b) * p) (2 ^ 426)))) e
-
-  below : (u v : ℕ) → u < v → ltb u v ≡ true
-  below u v l = is-true (ltb u v) (lt→ltb u v l)
-
-  beyond : (u v : ℕ) → v ≤ u → ltb u v ≡ false
-  beyond u v l = is-false (ltb u v) (le→nltb u v l)
-
-  pub less : Bool·beq s t ≡ false → a < b → Sum s t (a * p) (b * p) ≡ round binary32 t ((b - a) * p) (2 ^ 426)
-  less e l = unlike true false (below a b l) (beyond b a (le-of-lt l)) e
-
-  pub more : Bool·beq s t ≡ false → b < a → Sum s t (a * p) (b * p) ≡ round binary32 s ((a - b) * p) (2 ^ 426)
-  more e l = unlike false true (beyond a b (le-of-lt l)) (below b a l) e ∙ ap (λ (q : Bool). round binary32 q ((a - b) * p) (2 ^ 426)) (kept s)
-    where
-      kept : (b : Bool) → (b && true) ≡ b
-      kept true = refl
-      kept false = refl
-
-  -- exact cancellation is +0
-  pub none : Bool·beq s t ≡ false → a ≡ b → Sum s t (a * p) (b * p) ≡ round binary32 false (0 * p) (2 ^ 426)
-  none e z =
-      unlike false false (beyond a b (le-of-eq (sym z))) (beyond b a (le-of-eq z)) e
-      ∙ ap₂ (λ (q : Bool) (k : ℕ). round binary32 q (k * p) (2 ^ 426)) (gone s) (omega arith)
-    where
-      gone : (b : Bool) → (b && false) ≡ false
-      gone true = refl
-      gone false = refl
+pub size-le : (s t : Bool) (a b : ℕ) → sumSize s a t b ≤ a + b
+size-le s t a b = go (Bool·beq s t) (ltb a b)
+  where
+    go : (x y : Bool) → cond x (a + b) (cond y (b - a) (a - b)) ≤ a + b
+    go true y = omega arith
+    go false true = omega arith
+    go false false = omega arith

@@ -1,7 +1,10 @@
 -- What the parts of `root` and `fused` hand each other. Definitions only.
 use mathlib.Core.Path.{_≡_}
 use mathlib.Core.Logic.{_⊎_}
-use Prim.Native.Nat.{ℕ, _+_, _-_, _*_, _%_, _^_, _≤_, _<_, max}
+use mathlib.Core.Bool.{Bool, _&&_, Bool·beq, cond}
+use lib.Dec.{ltb}
+use Rattle.arith.specs.Pattern.{sigOf, expOf}
+use Prim.Native.Nat.{ℕ, zero, suc, _+_, _-_, _*_, _%_, _^_, _≤_, _<_, max}
 
 -- sig * 2 ^ exp as m * 2 ^ e, the leading digit moved up to that of 2 ^ (63 - top)
 pub record Placed (sig exp top m e : ℕ) : Type 0 where
@@ -11,6 +14,14 @@ pub record Placed (sig exp top m e : ℕ) : Type 0 where
   pub small : m < 2 ^ (64 - top)
   pub high : e ≤ exp
   pub low : exp + top ≤ e + 63
+
+-- a pattern's magnitude in units of 2 ^ -275, with 24 digits
+pub record Digits (bits m e : ℕ) : Type 0 where
+  pub lead : 2 ^ 23 ≤ m
+  pub small : m < 2 ^ 24
+  pub low : 103 ≤ e
+  pub high : e < 380
+  pub value : m * 2 ^ (e + 23) ≡ sigOf bits * 2 ^ expOf bits * 2 ^ 149
 
 -- a whole number whose square is nearest to a: the root of a lies between r - 1/2 and r + 1/2
 pub record NearestRoot (a r : ℕ) : Type 0 where
@@ -23,6 +34,18 @@ pub record Ready (sig exp : ℕ) : Type 0 where
   pub zeros : sig % 2 ^ 14 ≡ 0
   pub high : exp ≤ 1000
   pub lead : ((sig ≡ 0) × (exp ≡ 0)) ⊎ ((2 ^ 60 ≤ sig) × (64 ≤ exp))
+
+-- the exponent of an operand: zero takes the least
+abbrev pub expUnlessZero : ℕ → ℕ → ℕ
+expUnlessZero zero exp = 0
+expUnlessZero (suc sig) exp = exp
+
+-- the sign and the size of ±a + ±b, with the signs s and t
+abbrev pub sumSign : Bool → ℕ → Bool → ℕ → Bool
+sumSign s a t b = cond (ltb a b) t (cond (ltb b a) s (s && t))
+
+abbrev pub sumSize : Bool → ℕ → Bool → ℕ → ℕ
+sumSize s a t b = cond (Bool·beq s t) (a + b) (cond (ltb a b) (b - a) (a - b))
 
 -- the sum, before it is rounded
 pub record Summed (sig exp : ℕ) : Type 0 where

@@ -1,6 +1,7 @@
 // The fused multiply-add of three finite numbers: product and addend in units of 2 ^ -426, the one
 // with the lower exponent jammed to the other's, added, and rounded once.
 ghost use mathlib.Core.Path.{_≡_};
+ghost use mathlib.Core.Bool.{true, false};
 ghost use Prim.Native.Nat.{_+_, _-_, _*_, _^_, _≤_, _<_, min, max};
 ghost use lib.Dec.{T};
 ghost use lib.Ieee.{binary32, round, sum};
@@ -8,7 +9,7 @@ ghost use lib.Ieee.Scale.{finite};
 ghost use Rattle.arith.specs.Digit.{jam};
 ghost use Rattle.arith.specs.Pattern.{worth};
 ghost use Rattle.arith.specs.Fused.{fma};
-ghost use Rattle.arith.specs.Parts.{Ready, Summed, shiftOf};
+ghost use Rattle.arith.specs.Parts.{Ready, Summed, shiftOf, expUnlessZero, sumSign, sumSize};
 use crate::pattern::Scaled;
 
 // sig * 2 ^ exp with a sign
@@ -26,22 +27,27 @@ fn product(a: u64, b: u64) -> u64
     a * b
 }
 
-// sig * 2 ^ exp as an operand of the sum. A shift by n is enough for the digits of normal numbers.
+fn unless_zero(sig: u64, exp: u32) -> u32
+    ensures { λ r. ⌜ r ≡ expUnlessZero sig exp ⌝ }
+{
+    if sig == 0 { 0 } else { exp }
+}
+
+// sig * 2 ^ exp as an operand of the sum. A shift by n is enough for the digits of normal numbers,
+// and zero takes the least exponent, so that nothing is jammed to it.
 fn operand(sig: u64, exp: u32, n: u32) -> Scaled
     requires { ⌜ (sig < 2 ^ 48) × (sig < 2 ^ (62 - n)) × (14 ≤ n) × (n ≤ 60) × (128 ≤ exp) × (exp ≤ 1000) ⌝ }
     ensures { λ r. ⌜ Ready (r .sig) (r .exp) × (r .sig * 2 ^ r .exp ≡ sig * 2 ^ exp) ⌝ }
 {
     let near = sig << n;
-    if 0x1000_0000_0000_0000 <= near {
-        return Scaled {
-            sig: near,
-            exp: exp - n,
-        };
+    // one test for above zero and below 2 ^ 60: zero is common, and no branch hangs on it alone
+    if std::num::wrapping_sub_u64(near, 1) < 0xfff_ffff_ffff_ffff {
+        return crate::pattern::place(sig, exp, 2);
     }
-    if sig == 0 {
-        return Scaled { sig: 0, exp: 0 };
+    Scaled {
+        sig: near,
+        exp: unless_zero(near, exp - n),
     }
-    crate::pattern::place(sig, exp, 2)
 }
 
 // The product of two patterns' magnitudes, in units of 2 ^ -426.
@@ -99,6 +105,35 @@ fn jammed(x: u64, d: u32) -> u64
     }
 }
 
+// The sign of a sum: the larger part's, and of equal parts minus only where both have it.
+fn sign_of_sum(s: bool, a: u64, t: bool, b: u64) -> bool
+    ensures { λ r. ⌜ r ≡ sumSign s a t b ⌝ }
+{
+    if a < b {
+        return t;
+    }
+    if b < a {
+        return s;
+    }
+    if s { t } else { false }
+}
+
+fn apart(a: u64, b: u64) -> u64
+    ensures { λ r. ⌜ r ≡ sumSize true a false b ⌝ }
+{
+    if a < b { b - a } else { a - b }
+}
+
+// The size of a sum: both sides are worked out, so that no branch hangs on the signs.
+fn size_of_sum(s: bool, a: u64, t: bool, b: u64) -> u64
+    requires { ⌜ a + b < 2 ^ 63 ⌝ }
+    ensures { λ r. ⌜ r ≡ sumSize s a t b ⌝ }
+{
+    let sum = a + b;
+    let gap = apart(a, b);
+    if s == t { sum } else { gap }
+}
+
 // x and y with their signs, each jammed to the greater exponent, added.
 fn combine(s: bool, x: Scaled, t: bool, y: Scaled) -> Signed
     requires { ⌜ Ready (x .sig) (x .exp) × Ready (y .sig) (y .exp) ⌝ }
@@ -107,30 +142,9 @@ fn combine(s: bool, x: Scaled, t: bool, y: Scaled) -> Signed
     let exp = greater(x.exp, y.exp);
     let a = jammed(x.sig, exp - x.exp);
     let b = jammed(y.sig, exp - y.exp);
-    if s == t {
-        return Signed {
-            neg: s,
-            sig: a + b,
-            exp: exp,
-        };
-    }
-    if a < b {
-        return Signed {
-            neg: t,
-            sig: b - a,
-            exp: exp,
-        };
-    }
-    if a == b {
-        return Signed {
-            neg: false,
-            sig: 0,
-            exp: exp,
-        };
-    }
     Signed {
-        neg: s,
-        sig: a - b,
+        neg: sign_of_sum(s, a, t, b),
+        sig: size_of_sum(s, a, t, b),
         exp: exp,
     }
 }

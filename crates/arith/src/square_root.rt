@@ -3,158 +3,101 @@ ghost use mathlib.Core.Path.{_≡_};
 ghost use Prim.Native.Nat.{_+_, _*_, _%_, _^_, _≤_, _<_};
 ghost use Rattle.arith.specs.Root.{rootOf};
 ghost use Rattle.arith.specs.Pattern.{sigOf, expOf};
-ghost use Rattle.arith.specs.Parts.{NearestRoot};
+ghost use Rattle.arith.specs.Parts.{NearestRoot, Digits};
 use crate::pattern::Scaled;
 
-// For each sixty-fourth of an octave, two octaves: 29, 22 and 13 digits, the coefficients of a
-// parabola through the root. They set the speed alone: what they lead to is tested.
-const PARABOLAS: [u64; 128] = [
-    0x01fe03db_f8134fd1,
-    0x03f81f4b_f0596f74,
-    0x05ee68d3_e8cbef1b,
-    0x07e0f653_e1692ec6,
-    0x09cfdcc3_da2fae73,
-    0x0bbb3063_d31e0e24,
-    0x0da304c3_cc32add7,
-    0x0f876cbb_c56c6d8d,
-    0x11687a73_bec9cd45,
-    0x13463f93_b849cd00,
-    0x1520cd03_b1eb4cbd,
-    0x16f83333_abacec7d,
-    0x18cc820b_a58dcc3e,
-    0x1a9dc8e3_9f8cec02,
-    0x1c6c16a3_99a96bc7,
-    0x1e3779ab_93e22b8f,
-    0x1ffffff3_8e366b58,
-    0x21c5b703_88a54b22,
-    0x2388abf3_832e0aef,
-    0x2548eb83_7dcfcabd,
-    0x2706820b_7889ea8c,
-    0x28c17b83_735b8a5d,
-    0x2a79e393_6e442a2f,
-    0x2c2fc58b_69432a02,
-    0x2de32c5b_6457a9d7,
-    0x2f9422bb_5f8149ad,
-    0x3142b303_5abf6984,
-    0x32eee74b_5611695c,
-    0x3498c973_5176c935,
-    0x364062fb_4cef0910,
-    0x37e5bd3b_4879a8eb,
-    0x3988e13b_441608c7,
-    0x3b29d7cb_3fc3e8a4,
-    0x3cc8a993_3b82c882,
-    0x3e655eeb_37522861,
-    0x3ffffffb_3331c841,
-    0x419894bb_2f210822,
-    0x432f24f3_2b1fa803,
-    0x44c3b83b_272d27e5,
-    0x465655eb_234967c8,
-    0x47e70543_1f73c7ab,
-    0x4975cd53_1bac278f,
-    0x4b02b4f3_17f22774,
-    0x4c8dc2db_1445675a,
-    0x4e16fdab_10a58740,
-    0x4f9e6bb3_0d126726,
-    0x51241353_098bc70d,
-    0x52a7fa9b_061126f5,
-    0x542a278b_02a266de,
-    0x55aa9ffa_ff3f46c6,
-    0x572969b2_fbe766b0,
-    0x58a68a42_f89aa69a,
-    0x5a220732_f558c684,
-    0x5b9be5d2_f221866f,
-    0x5d142b6a_eef4a65a,
-    0x5e8add22_ebd20645,
-    0x5ffffffa_e8b94631,
-    0x617398f2_e5aa661e,
-    0x62e5acca_e2a5060b,
-    0x64564052_dfa905f8,
-    0x65c55822_dcb625e6,
-    0x6732f8ca_d9cc65d4,
-    0x689f26c2_d6eb65c2,
-    0x6a09e662_d41305b1,
-    0x6cdb2b95_9cf2b65d,
-    0x6fa6e9ed_920575db,
-    0x726d415d_8756f55d,
-    0x752e50b5_7ce514e4,
-    0x77ea35b5_72ad946f,
-    0x7aa10cfd_68ae53ff,
-    0x7d52f225_5ee55392,
-    0x7fffffe5_5550932a,
-    0x82a84fed_4bee72c4,
-    0x854bfb1d_42bd3263,
-    0x87eb1975_39bb3204,
-    0x8a85c235_30e6d1a9,
-    0x8d1c0bcd_283eb151,
-    0x8fae0bfd_1fc130fb,
-    0x923bd7cd_176d30a8,
-    0x94c58395_0f413058,
-    0x974b231d_073c300a,
-    0x99ccc984_ff5cafbf,
-    0x9c4a8954_f7a1cf76,
-    0x9ec4748c_f00a6f2f,
-    0xa13a9ca4_e8954eea,
-    0xa3ad128c_e141aea7,
-    0xa61be6bc_da0e6e67,
-    0xa887292c_d2faae28,
-    0xaaeee96c_cc058dea,
-    0xad533684_c52e4daf,
-    0xafb41f34_be73ed75,
-    0xb211b1bc_b7d5ad3d,
-    0xb46bfbf4_b152cd06,
-    0xb6c30b74_aaeaacd0,
-    0xb916ed5c_a49c6c9c,
-    0xbb67ae7c_9e678c6a,
-    0xbdb55b4c_984b4c39,
-    0xbffffff4_9246ec09,
-    0xc247a854_8c5a0bda,
-    0xc48c5ff4_86840bac,
-    0xc6ce321c_80c42b80,
-    0xc90d29cc_7b1a0b54,
-    0xcb4951ac_75850b2a,
-    0xcd82b43c_7004cb01,
-    0xcfb95bb4_6a98aad8,
-    0xd1ed51fc_65402ab1,
-    0xd41ea0e4_5ffb0a8b,
-    0xd64d51dc_5ac88a65,
-    0xd8796e2c_55a86a40,
-    0xdaa2fef4_509a4a1c,
-    0xdcca0d04_4b9da9f9,
-    0xdeeea10c_46b229d7,
-    0xe110c38c_41d769b6,
-    0xe3307cbc_3d0d0995,
-    0xe54dd4c4_3852c975,
-    0xe768d394_33a82955,
-    0xe98180e4_2f0cc937,
-    0xeb97e44c_2a808919,
-    0xedac0544_260308fb,
-    0xefbdeb0c_2193e8de,
-    0xf1cd9ccc_1d32c8c2,
-    0xf3db216c_18df88a7,
-    0xf5e67fd4_1499c88b,
-    0xf7efbeb4_10616871,
-    0xf9f6e494_0c35e857,
-    0xfbfbf7e4_0817283e,
-    0xfdfefefc_0404e825,
-    0xfffffffb_fffee80c,
-];
-
-fn parabola(at: usize) -> u64
-    requires { ⌜ at < 128 ⌝ }
-{
-    PARABOLAS[at]
+// Two octaves in sixteenths, and on each a cubic through the root, as its end falls back: here the
+// root at the end and the slope, 32 digits each. A `match` is read from one place in memory, where
+// an array would be written to the frame at each call.
+fn end_and_slope(at: u64) -> u64 {
+    match at {
+        0 => 0x03f07b3e_3e16e224,
+        1 => 0x07c3b66e_3c570a0d,
+        2 => 0x0b7c19a9_3abb091f,
+        3 => 0x0f1bbce2_393e555e,
+        4 => 0x12a475cd_37dd28ef,
+        5 => 0x1617e2ce_36945976,
+        6 => 0x197773af_35613955,
+        7 => 0x1cc470a3_34418001,
+        8 => 0x20000002_333337a3,
+        9 => 0x232b2afa_3234ae9e,
+        10 => 0x2646e174_31446c19,
+        11 => 0x2953fd50_306126c4,
+        12 => 0x2c534527_2f89bd6b,
+        13 => 0x2f456e93_2ebd30df,
+        14 => 0x322b202c_2dfa9f03,
+        15 => 0x3504f335_2d413ea6,
+        16 => 0x3a97287a_57cec276,
+        17 => 0x4000000a_55556995,
+        18 => 0x4542e130_530ec055,
+        19 => 0x4a62c1de_50f45b6e,
+        20 => 0x4f623a57_4f00e4f0,
+        21 => 0x544394a5_4d2fe2d8,
+        22 => 0x5908d8e8_4b7d8b88,
+        23 => 0x5db3d746_49e6a457,
+        24 => 0x62463004_4868678e,
+        25 => 0x66c15a26_47006ff6,
+        26 => 0x6b26a8f3_45aca89b,
+        27 => 0x6f77508d_446b3fc7,
+        28 => 0x73b469cf_433a9c7a,
+        29 => 0x77def58c_421955d4,
+        30 => 0x7bf7df5e_41062c0c,
+        _ => 0x80000001_4000029c,
+    }
 }
 
-// A guess at the root of m * 2 ^ (23 + odd), nearly always the nearest whole number.
+// The bend of each cubic and the bend's own change, 32 digits each.
+fn bends(at: u64) -> u64 {
+    match at {
+        0 => 0x00e96810_0007691e,
+        1 => 0x00d6437d_00066588,
+        2 => 0x00c5998b_00059115,
+        3 => 0x00b6fceb_0004e14e,
+        4 => 0x00aa175b_00044e73,
+        5 => 0x009ea3fc_0003d2ac,
+        6 => 0x00946b39_00036982,
+        7 => 0x008b3fc3_00030f83,
+        8 => 0x0082fc5c_0002c1fb,
+        9 => 0x007b8222_00027ec8,
+        10 => 0x0074b749_00024435,
+        11 => 0x006e8621_000210e2,
+        12 => 0x0068dc4d_0001e3b3,
+        13 => 0x0063aa29_0001bbbe,
+        14 => 0x005ee254_00019841,
+        15 => 0x005a7947_0001789e,
+        16 => 0x014a162d_000a7aee,
+        17 => 0x012f03b8_00090bd2,
+        18 => 0x011772c3_0007df5e,
+        19 => 0x0102c8b7_0006e6c9,
+        20 => 0x00f08b9a_00061719,
+        21 => 0x00e05a05_0005680d,
+        22 => 0x00d1e55b_0004d354,
+        23 => 0x00c4ed8d_0004540e,
+        24 => 0x00b93deb_0003e669,
+        25 => 0x00aeaacb_00038760,
+        26 => 0x00a50fb1_00033489,
+        27 => 0x009c4df1_0002ebf5,
+        28 => 0x00944b92_0002ac0e,
+        29 => 0x008cf279_0002738b,
+        30 => 0x00862fb6_0002415c,
+        _ => 0x007ff2fe_0002149e,
+    }
+}
+
+// A guess at the root of m * 2 ^ (23 + odd), right for all but one m in a hundred. What the two
+// tables hold sets the speed alone: the guess is tested.
 fn guess(m: u64, odd: u64) -> u64
-    requires { ⌜ (2 ^ 23 ≤ m) × (m < 2 ^ 24) × (odd < 2) ⌝ }
+    requires { ⌜ odd < 2 ⌝ }
     ensures { λ r. ⌜ r ≤ 2 ^ 25 ⌝ }
 {
-    let p = parabola((odd * 64 + m / 131072 - 64) as usize);
-    let back = 131072 - m % 131072;
-    let bend = back * (p % 8192) / 65536;
-    let fall = back * (p / 8192 % 4194304 + bend) / 65536;
-    (0x2000_0020 + p / 0x8_0000_0000 - fall) / 64
+    let at = odd * 16 + m / 0x8_0000 % 16;
+    let first = end_and_slope(at);
+    let second = bends(at);
+    let back = 0x8_0000 - m % 0x8_0000;
+    let change = back * (second % 0x1_0000_0000) / 0x8_0000;
+    let bend = back * (second / 0x1_0000_0000 + change) / 0x8_0000;
+    let fall = back * (first % 0x1_0000_0000 + bend) / 0x80_0000;
+    (0x8000_0080 + first / 0x1_0000_0000 - fall) / 0x100
 }
 
 // Down from r until the root is above r - 1/2.
@@ -205,17 +148,25 @@ fn of_digits(m: u64, e: u32) -> f32
     f32::from_bits((crate::pattern::wide(e / 2) * 0x80_0000 + r) as u32)
 }
 
-// The root of the number that a pattern above zero stands for: a subnormal significand is moved up.
+// A pattern above zero as m * 2 ^ e in units of 2 ^ -275: a subnormal significand is moved up.
+fn digits(bits: u32) -> Scaled
+    requires { ⌜ (0 < bits) × (bits < 255 * 2 ^ 23) ⌝ }
+    ensures { λ r. ⌜ Digits bits (r .sig) (r .exp) ⌝ }
+{
+    if bits < 0x80_0000 {
+        return crate::pattern::place(crate::pattern::wide(bits), 126, 40);
+    }
+    Scaled {
+        sig: crate::pattern::wide(bits % 0x80_0000 + 0x80_0000),
+        exp: bits / 0x80_0000 + 125,
+    }
+}
+
+// The root of the number that a pattern above zero stands for.
 pub(crate) fn above_zero(bits: u32) -> f32
     requires { ⌜ (0 < bits) × (bits < 255 * 2 ^ 23) ⌝ }
     ensures { λ r. ⌜ r ≡ rootOf (sigOf bits * 2 ^ expOf bits * 2 ^ 149) ⌝ }
 {
-    if bits < 0x80_0000 {
-        let d = crate::pattern::place(crate::pattern::wide(bits), 126, 40);
-        return of_digits(d.sig, d.exp);
-    }
-    of_digits(
-        crate::pattern::wide(bits % 0x80_0000 + 0x80_0000),
-        bits / 0x80_0000 + 125,
-    )
+    let d = digits(bits);
+    of_digits(d.sig, d.exp)
 }

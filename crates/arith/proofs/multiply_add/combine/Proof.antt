@@ -1,13 +1,14 @@
--- `combine`: the jammed operands have the sum of the exact ones, in the cases that their signs and sizes make. Assumes nothing.
+-- `combine`: the jammed operands have the sum of the exact ones. Assumes nothing.
 use borrow.Author.Needs.{needs}
 use mathlib.Core.Path.{_≡_, sym, ap, ap₂, _∙_, subst}
+use mathlib.Core.Bool.{Bool}
 use Prim.Native.Nat.{ℕ, _+_, _-_, _*_, _^_, _≤_, max}
 use native.Mathlib.Omega.{arith}
 use lib.Pow.{pow-pos}
-use lib.Ieee.{Float, binary32, sum}
+use lib.Ieee.{binary32, sum, round}
 use Rattle.arith.specs.Digit.{jam}
-use Rattle.arith.specs.Parts.{Summed}
-use Rattle.arith.proofs.Combining.{both-jammed, summed, like, less, more, none}
+use Rattle.arith.specs.Parts.{Summed, sumSign, sumSize}
+use Rattle.arith.proofs.Combining.{both-jammed, summed, settled, size-le}
 use Rattle.arith.proofs.multiply_add.combine.Statement.{statement}
 use Rattle.arith.proofs.multiply_add.combine.Tie as tie
 
@@ -34,13 +35,14 @@ module _ (k : tie.After-jammed2) where
   b-is : b ≡ jam (st .args .y .sig) (max (st .args .x .exp) (st .args .y .exp) - st .args .y .exp)
   b-is = k .jammed2 .ensures ∙ ap (λ (i : ℕ). jam (st .args .y .sig) (i - st .args .y .exp)) e-is
 
-  base : sum binary32 (st .args .s) (st .args .x .sig * 2 ^ st .args .x .exp) (st .args .t) (st .args .y .sig * 2 ^ st .args .y .exp) (2 ^ 426)
-      ≡ sum binary32 (st .args .s) (a * 2 ^ e) (st .args .t) (b * 2 ^ e) (2 ^ 426)
-  base =
+  exact-sum : sum binary32 (st .args .s) (st .args .x .sig * 2 ^ st .args .x .exp) (st .args .t) (st .args .y .sig * 2 ^ st .args .y .exp) (2 ^ 426)
+      ≡ round binary32 (sumSign (st .args .s) a (st .args .t) b) (sumSize (st .args .s) a (st .args .t) b * 2 ^ e) (2 ^ 426)
+  exact-sum =
       let g = st .args in
       both-jammed (g .s) (g .t) (g .x .sig) (g .x .exp) (g .y .sig) (g .y .exp) (st .pre .0) (st .pre .1)
       ∙ ap₂ (λ (u v : ℕ). sum binary32 (g .s) (u * 2 ^ max (g .x .exp) (g .y .exp)) (g .t) (v * 2 ^ max (g .x .exp) (g .y .exp)) (2 ^ 426)) (sym a-is) (sym b-is)
       ∙ ap (λ (i : ℕ). sum binary32 (g .s) (a * 2 ^ i) (g .t) (b * 2 ^ i) (2 ^ 426)) (sym e-is)
+      ∙ settled a b (2 ^ e) (pow-pos e) (g .s) (g .t)
 
   fine : (r : ℕ) → r ≤ a + b → Summed r e
   fine r l =
@@ -49,16 +51,14 @@ module _ (k : tie.After-jammed2) where
       (summed (g .s) (g .t) (g .x .sig) (g .x .exp) (g .y .sig) (g .y .exp) (st .pre .0) (st .pre .1) r (omega (arith, a-is, b-is)))
 
 returns : tie.Need-returns
-returns c = let k = c .before in (fine k (a k + b k) (omega arith), base k ∙ like _ _ (a k) (b k) _ (pow-pos (e k)) (c .if1 .taken))
-
-returns-2 : tie.Need-returns-2
-returns-2 c = let k = c .before .before in (fine k (b k - a k) (omega arith), base k ∙ less _ _ (a k) (b k) _ (pow-pos (e k)) (c .before .if1 .left) (c .if2 .taken))
-
-returns-3 : tie.Need-returns-3
-returns-3 c = let k = c .before .before .before in (fine k 0 (omega arith), base k ∙ none _ _ (a k) (b k) _ (pow-pos (e k)) (c .before .before .if1 .left) (c .if3 .taken))
-
-returns-4 : tie.Need-returns-4
-returns-4 c = let k = c .before .before .before in (fine k (a k - b k) (omega arith), base k ∙ more _ _ (a k) (b k) _ (pow-pos (e k)) (c .before .before .if1 .left) (omega arith))
+returns c =
+    let n = c .before in
+    let k = n .before in
+    let g = st k .args in
+    let z : c .size-of-sum .result ≡ sumSize (g .s) (a k) (g .t) (b k) = c .size-of-sum .ensures in (
+      fine k (c .size-of-sum .result) (omega (arith, size-le (g .s) (g .t) (a k) (b k))),
+      exact-sum k ∙ ap₂ (λ (q : Bool) (x : ℕ). round binary32 q (x * 2 ^ e k) (2 ^ 426)) (sym (n .sign-of-sum .ensures)) (sym z),
+    )
 
 pub combine-spec : {M : Type 1} → statement M
 combine-spec =
@@ -69,9 +69,6 @@ combine-spec =
     (λ c κs. search needs)
     (λ c. search needs)
     (λ c κs. search needs)
-    (λ c. let k = c .before in omega (arith, fine k (a k + b k) (omega arith) .small))
-    returns
-    (λ c. search needs)
-    returns-2
-    returns-3
-    returns-4)
+    (λ c κs. search needs)
+    (λ c κs. let k = c .before in omega (arith, fine k (a k + b k) (omega arith) .small))
+    returns)

@@ -1,4 +1,4 @@
--- `guess`: whatever the table holds, no step of the parabola leaves 64 digits. Assumes nothing.
+-- `guess`: whatever the tables hold, no step of the cubic leaves 64 digits. Assumes nothing.
 use borrow.Author.Needs.{needs}
 use Prim.Native.Nat.{ℕ, _+_, _-_, _*_, _/_, _%_, _^_, _≤_, _<_}
 use native.Mathlib.Nat.{mul-le-mul}
@@ -6,16 +6,31 @@ use native.Mathlib.Omega.{arith}
 use Rattle.arith.proofs.square_root.guess.Statement.{statement}
 use Rattle.arith.proofs.square_root.guess.Tie as tie
 
-abbrev bendOf : ℕ → ℕ → ℕ
-bendOf m p = (131072 - m % 131072) * (p % 8192)
+-- a factor that `back` takes part of
+part : (m x b : ℕ) → x ≤ b → (2 ^ 19 - m % 2 ^ 19) * x ≤ 2 ^ 19 * b
+part m x b h = mul-le-mul (let g : 2 ^ 19 - m % 2 ^ 19 ≤ 2 ^ 19 = omega arith in g) h
 
-bend-le : (m p : ℕ) → bendOf m p ≤ 131072 * 8191
-bend-le m p = mul-le-mul (let g : 131072 - m % 131072 ≤ 131072 = omega arith in g) (let g : p % 8192 ≤ 8191 = omega arith in g)
+module _ (c : tie.After-bends) where
+  abbrev m : ℕ
+  m = c .before .before .args .m
 
-fall-le : (m p : ℕ) → (131072 - m % 131072) * (p / 8192 % 4194304 + bendOf m p / 65536) ≤ 131072 * 4210685
-fall-le m p =
-    mul-le-mul (let g : 131072 - m % 131072 ≤ 131072 = omega arith in g)
-    (let g : p / 8192 % 4194304 + bendOf m p / 65536 ≤ 4210685 = omega (arith, bend-le m p) in g)
+  abbrev first : ℕ
+  first = c .before .end-and-slope .result
+
+  abbrev second : ℕ
+  second = c .bends .result
+
+  abbrev back : ℕ
+  back = 2 ^ 19 - m % 2 ^ 19
+
+  change-le : back * (second % 2 ^ 32) ≤ 2 ^ 19 * 2 ^ 32
+  change-le = part m (second % 2 ^ 32) (2 ^ 32) (omega arith)
+
+  bend-le : back * (second / 2 ^ 32 + back * (second % 2 ^ 32) / 2 ^ 19) ≤ 2 ^ 19 * 2 ^ 33
+  bend-le = part m _ (2 ^ 33) (omega (arith, change-le))
+
+  fall-le : back * (first % 2 ^ 32 + back * (second / 2 ^ 32 + back * (second % 2 ^ 32) / 2 ^ 19) / 2 ^ 19) ≤ 2 ^ 19 * 2 ^ 34
+  fall-le = part m _ (2 ^ 34) (omega (arith, bend-le))
 
 pub guess-spec : {M : Type 1} → statement M
 guess-spec =
@@ -23,12 +38,14 @@ guess-spec =
     (tie.spec
     (λ c. search needs)
     (λ c. search needs)
-    (λ c. search needs)
+    (λ c κs. search needs)
     (λ c κs. search needs)
     (λ c. search needs)
-    (λ c. omega (arith, bend-le (c .before .args .m) (c .parabola .result)))
-    (λ c. omega (arith, bend-le (c .before .args .m) (c .parabola .result)))
-    (λ c. omega (arith, fall-le (c .before .args .m) (c .parabola .result)))
+    (λ c. omega (arith, change-le c))
+    (λ c. omega (arith, change-le c))
+    (λ c. omega (arith, bend-le c))
+    (λ c. omega (arith, bend-le c))
+    (λ c. omega (arith, fall-le c))
     (λ c. search needs)
-    (λ c. omega (arith, fall-le (c .before .args .m) (c .parabola .result)))
-    (λ c. omega (arith, fall-le (c .before .args .m) (c .parabola .result))))
+    (λ c. omega (arith, fall-le c))
+    (λ c. omega (arith, fall-le c)))
