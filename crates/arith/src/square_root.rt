@@ -6,81 +6,81 @@ ghost use Rattle.arith.specs.Pattern.{sigOf, expOf};
 ghost use Rattle.arith.specs.Parts.{NearestRoot, Digits};
 use crate::pattern::Scaled;
 
-// Two octaves in sixteenths, and on each a cubic through the root, as its end falls back: here the
-// root at the end and the slope, 32 digits each. A `match` is read from one place in memory, where
-// an array would be written to the frame at each call.
+// Two octaves in sixteenths, and on each a cubic that falls back from its end: here the root at the
+// end, 2 ^ 7 times and rounded, and the slope, 32 digits each. A `match` is read from one place in
+// memory, where an array would be written to the frame at each call.
 fn end_and_slope(at: u64) -> u64 {
     match at {
-        0 => 0x03f07b3e_3e16e224,
-        1 => 0x07c3b66e_3c570a0d,
-        2 => 0x0b7c19a9_3abb091f,
-        3 => 0x0f1bbce2_393e555e,
-        4 => 0x12a475cd_37dd28ef,
-        5 => 0x1617e2ce_36945976,
-        6 => 0x197773af_35613955,
-        7 => 0x1cc470a3_34418001,
-        8 => 0x20000002_333337a3,
-        9 => 0x232b2afa_3234ae9e,
-        10 => 0x2646e174_31446c19,
-        11 => 0x2953fd50_306126c4,
-        12 => 0x2c534527_2f89bd6b,
-        13 => 0x2f456e93_2ebd30df,
-        14 => 0x322b202c_2dfa9f03,
-        15 => 0x3504f335_2d413ea6,
-        16 => 0x3a97287a_57cec276,
-        17 => 0x4000000a_55556995,
-        18 => 0x4542e130_530ec055,
-        19 => 0x4a62c1de_50f45b6e,
-        20 => 0x4f623a57_4f00e4f0,
-        21 => 0x544394a5_4d2fe2d8,
-        22 => 0x5908d8e8_4b7d8b88,
-        23 => 0x5db3d746_49e6a457,
-        24 => 0x62463004_4868678e,
-        25 => 0x66c15a26_47006ff6,
-        26 => 0x6b26a8f3_45aca89b,
-        27 => 0x6f77508d_446b3fc7,
-        28 => 0x73b469cf_433a9c7a,
-        29 => 0x77def58c_421955d4,
-        30 => 0x7bf7df5e_41062c0c,
-        _ => 0x80000001_4000029c,
+        0 => 0x41f83ddf_7c2dc448,
+        1 => 0x43e1db77_78ae141b,
+        2 => 0x45be0d15_7576123e,
+        3 => 0x478ddeb1_727caabd,
+        4 => 0x49523b26_6fba51de,
+        5 => 0x4b0bf1a7_6d28b2ec,
+        6 => 0x4cbbba17_6ac272aa,
+        7 => 0x4e623891_68830002,
+        8 => 0x50000041_66666f45,
+        9 => 0x519595bd_64695d3d,
+        10 => 0x532370fa_6288d832,
+        11 => 0x54a9fee8_60c24d89,
+        12 => 0x5629a2d3_5f137ad5,
+        13 => 0x57a2b789_5d7a61bf,
+        14 => 0x59159056_5bf53e07,
+        15 => 0x5a8279da_5a827d4b,
+        16 => 0x5d4b947d_af9d84ed,
+        17 => 0x60000045_aaaad32a,
+        18 => 0x62a170d8_a61d80aa,
+        19 => 0x6531612f_a1e8b6dc,
+        20 => 0x67b11d6c_9e01c9df,
+        21 => 0x6a21ca92_9a5fc5af,
+        22 => 0x6c846cb4_96fb1710,
+        23 => 0x6ed9ebe3_93cd48ae,
+        24 => 0x71231842_90d0cf1c,
+        25 => 0x7360ad53_8e00dfeb,
+        26 => 0x759354b9_8b595136,
+        27 => 0x77bba887_88d67f8e,
+        28 => 0x79da3527_867538f3,
+        29 => 0x7bef7b06_8432aba7,
+        30 => 0x7dfbefef_820c5818,
+        _ => 0x80000041_80000539,
     }
 }
 
 // The bend of each cubic and the bend's own change, 32 digits each.
 fn bends(at: u64) -> u64 {
     match at {
-        0 => 0x00e96810_0007691e,
-        1 => 0x00d6437d_00066588,
-        2 => 0x00c5998b_00059115,
-        3 => 0x00b6fceb_0004e14e,
-        4 => 0x00aa175b_00044e73,
-        5 => 0x009ea3fc_0003d2ac,
-        6 => 0x00946b39_00036982,
-        7 => 0x008b3fc3_00030f83,
-        8 => 0x0082fc5c_0002c1fb,
-        9 => 0x007b8222_00027ec8,
-        10 => 0x0074b749_00024435,
-        11 => 0x006e8621_000210e2,
-        12 => 0x0068dc4d_0001e3b3,
-        13 => 0x0063aa29_0001bbbe,
-        14 => 0x005ee254_00019841,
-        15 => 0x005a7947_0001789e,
-        16 => 0x014a162d_000a7aee,
-        17 => 0x012f03b8_00090bd2,
-        18 => 0x011772c3_0007df5e,
-        19 => 0x0102c8b7_0006e6c9,
-        20 => 0x00f08b9a_00061719,
-        21 => 0x00e05a05_0005680d,
-        22 => 0x00d1e55b_0004d354,
-        23 => 0x00c4ed8d_0004540e,
-        24 => 0x00b93deb_0003e669,
-        25 => 0x00aeaacb_00038760,
-        26 => 0x00a50fb1_00033489,
-        27 => 0x009c4df1_0002ebf5,
-        28 => 0x00944b92_0002ac0e,
-        29 => 0x008cf279_0002738b,
-        30 => 0x00862fb6_0002415c,
-        _ => 0x007ff2fe_0002149e,
+        0 => 0x01d2d01f_7691e763,
+        1 => 0x01ac86fb_66588526,
+        2 => 0x018b3316_591149e0,
+        3 => 0x016df9d5_4e14df7b,
+        4 => 0x01542eb5_44e72d03,
+        5 => 0x013d47f8_3d2abab9,
+        6 => 0x0128d671_36982576,
+        7 => 0x01167f87_30f835c7,
+        8 => 0x0105f8b9_2c1fb7b4,
+        9 => 0x00f70444_27ec8226,
+        10 => 0x00e96e92_24434f5f,
+        11 => 0x00dd0c42_210e27ac,
+        12 => 0x00d1b899_1e3b33eb,
+        13 => 0x00c75453_1bbbdab7,
+        14 => 0x00bdc4a8_198413f6,
+        15 => 0x00b4f28e_1789e47e,
+        16 => 0x02942c59_a7aee70a,
+        17 => 0x025e0771_90bd2181,
+        18 => 0x022ee586_7df5e43b,
+        19 => 0x0205916f_6e6c8906,
+        20 => 0x01e11734_61718fca,
+        21 => 0x01c0b40a_5680c997,
+        22 => 0x01a3cab7_4d354175,
+        23 => 0x0189db1a_4540e0d8,
+        24 => 0x01727bd6_3e668e98,
+        25 => 0x015d5595_3875fb49,
+        26 => 0x014a1f62_3348953d,
+        27 => 0x01389be1_2ebf4b59,
+        28 => 0x01289725_2ac0e2b5,
+        29 => 0x0119e4f2_2738b5d7,
+        30 => 0x010c5f6c_2415c0d5,
+        _ => 0x00ffe5fc_2149e622,
     }
 }
 
@@ -94,10 +94,10 @@ fn guess(m: u64, odd: u64) -> u64
     let first = end_and_slope(at);
     let second = bends(at);
     let back = 0x8_0000 - m % 0x8_0000;
-    let change = back * (second % 0x1_0000_0000) / 0x8_0000;
+    let change = back * (second % 0x1_0000_0000) / 0x4000_0000;
     let bend = back * (second / 0x1_0000_0000 + change) / 0x8_0000;
-    let fall = back * (first % 0x1_0000_0000 + bend) / 0x80_0000;
-    (0x8000_0080 + first / 0x1_0000_0000 - fall) / 0x100
+    let fall = back * (first % 0x1_0000_0000 + bend) / 0x200_0000;
+    std::num::wrapping_sub_u64(first / 0x1_0000_0000, fall) % 0x1_0000_0000 / 0x80
 }
 
 // Down from r until the root is above r - 1/2.
@@ -131,8 +131,9 @@ fn nearest_root(m: u64, odd: u64) -> u64
 {
     let a = m << (23 + odd);
     let r = guess(m, odd);
-    if r * r < a + r {
-        if a <= r * (r + 1) {
+    let square = r * r;
+    if square < a + r {
+        if a <= square + r {
             return r;
         }
     }

@@ -26,10 +26,10 @@ module _ (c : tie.After-bends) where
   change-le : back * (second % 2 ^ 32) ≤ 2 ^ 19 * 2 ^ 32
   change-le = part m (second % 2 ^ 32) (2 ^ 32) (omega arith)
 
-  bend-le : back * (second / 2 ^ 32 + back * (second % 2 ^ 32) / 2 ^ 19) ≤ 2 ^ 19 * 2 ^ 33
+  bend-le : back * (second / 2 ^ 32 + back * (second % 2 ^ 32) / 2 ^ 30) ≤ 2 ^ 19 * 2 ^ 33
   bend-le = part m _ (2 ^ 33) (omega (arith, change-le))
 
-  fall-le : back * (first % 2 ^ 32 + back * (second / 2 ^ 32 + back * (second % 2 ^ 32) / 2 ^ 19) / 2 ^ 19) ≤ 2 ^ 19 * 2 ^ 34
+  fall-le : back * (first % 2 ^ 32 + back * (second / 2 ^ 32 + back * (second % 2 ^ 32) / 2 ^ 30) / 2 ^ 19) ≤ 2 ^ 19 * 2 ^ 34
   fall-le = part m _ (2 ^ 34) (omega (arith, bend-le))
 
 pub guess-spec : {M : Type 1} → statement M
@@ -46,6 +46,5 @@ guess-spec =
     (λ c. omega (arith, bend-le c))
     (λ c. omega (arith, bend-le c))
     (λ c. omega (arith, fall-le c))
-    (λ c. search needs)
-    (λ c. omega (arith, fall-le c))
-    (λ c. omega (arith, fall-le c)))
+    (λ c κs. search needs)
+    (λ c. search needs))

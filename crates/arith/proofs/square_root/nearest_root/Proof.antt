@@ -34,7 +34,7 @@ returns : tie.Need-returns
 returns c =
     let s = c .before .before .before in
     let r = c .before .before .guess .result in
-    record { above = subst (λ (x : ℕ). r * r < x + r) (word s) (c .before .if1 .taken); below = subst (λ (x : ℕ). x ≤ r * (r + 1)) (word s) (c .if2 .taken) }
+    record { above = subst (λ (x : ℕ). r * r < x + r) (word s) (c .before .if1 .taken); below = omega (arith, c .if2 .taken, word s, times-next r) }
 
 pub nearest-root-spec : {M : Type 1} → statement M
 nearest-root-spec =
@@ -45,8 +45,7 @@ nearest-root-spec =
     (λ c κs. search needs)
     (λ c. omega (arith, square-le c))
     (λ c. omega (arith, word (c .before), a-le (c .before)))
-    (λ c. search needs)
-    (λ c. omega (arith, square-le (c .before), times-next (c .before .guess .result)))
+    (λ c. omega (arith, square-le (c .before)))
     returns
     (λ c κs. let s = c .before .before in omega (arith, word s, a-le s, a-pos s))
     (λ c κs. let s = c .before .before .before in omega (arith, word s, a-le s))
