@@ -10,3 +10,4 @@ pub mod RootCases
 pub mod NoNearer
 pub mod Laws
 pub mod Bench
+pub mod Determined

@@ -4,7 +4,7 @@ ghost use Prim.Native.Nat.{_≤_};
 ghost use lib.ListN.{length};
 
 // How many patterns the record has, and so the cells of its longest line.
-pub const PATTERNS: usize = 50;
+pub(crate) const PATTERNS: usize = 50;
 
 enum Read {
     Number(u32),
@@ -90,7 +90,7 @@ fn line_by(text: &mut [u8], words: &mut [u32]) -> bool {
 }
 
 // Reads a line of as many patterns as there is room for, and answers whether it was there.
-pub fn line(words: &mut [u32]) -> bool {
+pub(crate) fn line(words: &mut [u32]) -> bool {
     let mut text = io::buffer();
     line_by(&mut text, words)
 }
@@ -109,7 +109,7 @@ fn named(text: &[u8; 18], name: &[u8; 9]) -> bool {
 
 // Reads a line that names a part and counts what it holds, and answers the count. It answers 0 where
 // the line is not there: a part that holds nothing is none.
-pub fn count(name: &[u8; 9]) -> u32 {
+pub(crate) fn count(name: &[u8; 9]) -> u32 {
     let mut text = [0u8; 18];
     let got = io::read_full(0, &mut text);
     if got < 18 {
@@ -125,7 +125,7 @@ pub fn count(name: &[u8; 9]) -> u32 {
 }
 
 // Whether nothing is left to read. A read that fails is no end.
-pub fn ended() -> bool {
+pub(crate) fn ended() -> bool {
     let mut one = [0u8; 1];
     libc::read(0, &mut one) == 0
 }

@@ -2,18 +2,18 @@
 
 // How many cases were compared, how many differ, and the first that does: what went in, what was
 // made of it and what the record has. Where the record does not read the rest says nothing.
-pub struct Tally {
-    pub reads: bool,
-    pub count: u64,
-    pub differ: u64,
-    pub a: u32,
-    pub b: u32,
-    pub c: u32,
-    pub made: u32,
-    pub recorded: u32,
+pub(crate) struct Tally {
+    pub(crate) reads: bool,
+    pub(crate) count: u64,
+    pub(crate) differ: u64,
+    pub(crate) a: u32,
+    pub(crate) b: u32,
+    pub(crate) c: u32,
+    pub(crate) made: u32,
+    pub(crate) recorded: u32,
 }
 
-pub fn nothing_yet() -> Tally {
+pub(crate) fn nothing_yet() -> Tally {
     Tally {
         reads: true,
         count: 0,
@@ -26,7 +26,7 @@ pub fn nothing_yet() -> Tally {
     }
 }
 
-pub fn no_record() -> Tally {
+pub(crate) fn no_record() -> Tally {
     let mut out = nothing_yet();
     out.reads = false;
     out
@@ -37,13 +37,13 @@ fn one_more(n: u64) -> u64 {
     if n < u64::MAX { n + 1 } else { n }
 }
 
-pub fn with_same(t: Tally) -> Tally {
+pub(crate) fn with_same(t: Tally) -> Tally {
     let mut out = t;
     out.count = one_more(t.count);
     out
 }
 
-pub fn with_difference(t: Tally, a: u32, b: u32, c: u32, made: u32, recorded: u32) -> Tally {
+pub(crate) fn with_difference(t: Tally, a: u32, b: u32, c: u32, made: u32, recorded: u32) -> Tally {
     let mut out = with_same(t);
     out.differ = one_more(t.differ);
     if t.differ > 0 {
@@ -103,13 +103,13 @@ fn print_counts(name: &[u8; 6], t: Tally) {
 }
 
 // Writes the first difference of each kind, if there is one, and the counts.
-pub fn report(of_root: Tally, of_fused: Tally) {
+pub(crate) fn report(of_root: Tally, of_fused: Tally) {
     print_first_root(of_root);
     print_first_fused(of_fused);
     print_counts(b"roots ", of_root);
     print_counts(b"fused ", of_fused);
 }
 
-pub fn refuse() {
+pub(crate) fn refuse() {
     print(b"the record does not read\n");
 }
