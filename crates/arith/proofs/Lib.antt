@@ -1,13 +1,14 @@
-pub mod Digits
-pub mod Rounding
-pub mod Packing
-pub mod Values
-pub mod Placing
-pub mod Jamming
-pub mod Combining
-pub mod Roots
-pub mod RootCases
-pub mod NoNearer
+-- What callers cite is public; the rest is how `root` and `fused` are proved.
 pub mod Laws
+pub mod NoNearer
 pub mod Bench
 pub mod Determined
+mod Digits
+mod Rounding
+mod Packing
+mod Values
+mod Placing
+mod Jamming
+mod Combining
+mod Roots
+mod RootCases

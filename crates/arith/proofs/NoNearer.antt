@@ -10,16 +10,19 @@ use mathlib.Core.Bool.{Bool, true, false, _&&_, true≢false}
 use lib.IntN.{ℤ, pos, negsuc}
 use lib.Dec.{T, leb, ltb, eqb, leb→le, ltb→lt, lit<, lit≤}
 use lib.Pow.{pow-add, pow-pos, pow-mono, pow-lt}
-use lib.Ieee.{Float, nan, inf, fin, binary32, up, down, fits, size, round, units}
+use lib.Ieee.{Float, nan, inf, fin, binary32, up, down, fits, size, round, units, toBits}
 use lib.Ieee.Digits.{size-lt, size-reaches}
 use lib.Ieee.Fits.{and-l, and-r, down-pos, round-fits, nan-fits}
 use lib.Ieee.Exact.{HasValue, units-val}
 use lib.Ieee.Nearest.{closest, nearest-ge}
+use lib.Ieee.Scale.{finite}
 use Rattle.arith.specs.Digit.{flag}
+use Rattle.arith.specs.Pattern.{worth}
+use Rattle.arith.proofs.Values.{sign, held}
 use Rattle.arith.specs.Root.{isqrt, root, rootOf, NoFarther}
 use Rattle.arith.proofs.Digits.{size-shr, size-gt}
 use Rattle.arith.proofs.Rounding.{three, closest-lt, closest-eq, closest-gt, round-pow, dropped}
-use Rattle.arith.proofs.Roots.{Floor, isqrt-floor, le-root, lt-root, double, suc-square}
+use Rattle.arith.proofs.Roots.{Floor, isqrt-floor, le-root, lt-root, double, suc-square, opened}
 use Rattle.arith.proofs.RootCases.{root-pos}
 
 -- ---- a fraction x / b and the nearest whole number: at most half a unit apart
@@ -247,10 +250,6 @@ many s h = (omega (arith, z), le-trans (le-of-eq (sym (pow-add 2 23 (size s - 24
     z : 74 < size s
     z = size-gt s 74 h
 
-opened : (n : ℕ) → rootOf n ≡ round binary32 false (2 * isqrt 213 n + flag (n - isqrt 213 n * isqrt 213 n)) (2 ^ 150)
-unfolding rootOf
-opened n = refl
-
 half-is : (s d : ℕ) → (2 * s + flag d) / 2 ≡ s
 half-is s zero = omega arith
 half-is s (suc d) = omega arith
@@ -296,16 +295,16 @@ module _ (x : Float) (a : ℕ) (fx : T (fits binary32 x)) (vx : HasValue x false
           let b : R * 2 ^ k * (R * 2 ^ k) ≤ n * 4 = le-trans (beyond-zero (lt-of-lt-of-le (pow-pos 277) g)) (le-of-eq (mul-comm 4 n)) in
           not-le-of-lt (lt-of-le-of-lt b l) (le-trans (lit≤ tt) (mul-le-mul g g))
 
-  pub no-nearer : (y : Float) (t : Bool) (q : ℕ) → T (fits binary32 y) → HasValue y t q (2 ^ 149) → (p : ℕ) × HasValue (root x) false p (2 ^ 149) × NoFarther n p t q
-  no-nearer y t q fy vy =
-      let g = grid-of y t q fy vy in (
-        R * 2 ^ k,
-        subst (λ (v : Float). HasValue v false (R * 2 ^ k) (2 ^ 149)) (sym rounded) (units-val binary32 false R k small),
-        subst (λ (i : ℕ). NoFarther n (R * 2 ^ k) t i) (sym (g .3))
-            (no-farther n (R * 2 ^ k) (g .0 * 2 ^ (g .1)) t beyond-zero
-            (down-side n s fl k R (enough .0) (enough .1) refl (g .0) (g .1) (g .2))
-            (up-side n s fl k R (enough .0) (enough .1) refl (g .0) (g .1) (g .2))),
-      )
+  nearest : (y : Float) (t : Bool) (q : ℕ) → T (fits binary32 y) → HasValue y t q (2 ^ 149) → NoFarther n (R * 2 ^ k) t q
+  nearest y t q fy vy =
+      let g = grid-of y t q fy vy in
+      subst (λ (i : ℕ). NoFarther n (R * 2 ^ k) t i) (sym (g .3))
+      (no-farther n (R * 2 ^ k) (g .0 * 2 ^ (g .1)) t beyond-zero
+      (down-side n s fl k R (enough .0) (enough .1) refl (g .0) (g .1) (g .2))
+      (up-side n s fl k R (enough .0) (enough .1) refl (g .0) (g .1) (g .2)))
+
+  answer : HasValue (root x) false (R * 2 ^ k) (2 ^ 149)
+  answer = subst (λ (v : Float). HasValue v false (R * 2 ^ k) (2 ^ 149)) (sym rounded) (units-val binary32 false R k small)
 
 -- ---- the answer fits
 pub root-fits : (x : Float) → T (fits binary32 x) → T (fits binary32 (root x))
@@ -318,3 +317,12 @@ root-fits (fin true (suc m) e) f = nan-fits binary32
 root-fits (fin false (suc m) e) f =
     let n = suc m * up e * 2 ^ 298 / down e in
     subst (λ (v : Float). T (fits binary32 v)) (sym (opened n)) (round-fits binary32 false (2 * isqrt 213 n + flag (n - isqrt 213 n * isqrt 213 n)) (2 ^ 150))
+
+-- The theorem: an `f32` x above zero has a root that fits binary32, of p units, and no finite `f32` y is nearer to the exact root. An infinity is farther than any number.
+pub no-nearer : (x : Float) (a : ℕ) → T (fits binary32 x) → HasValue x false a (2 ^ 149) → 0 < a
+    → T (fits binary32 (root x)) × ((p : ℕ) × HasValue (root x) false p (2 ^ 149) × ((y : Float) (t : Bool) (q : ℕ) → T (fits binary32 y) → HasValue y t q (2 ^ 149) → NoFarther (a * 2 ^ 149) p t q))
+no-nearer x a f v h = (root-fits x f, (R x a f v h * 2 ^ k x a f v h, answer x a f v h, nearest x a f v h))
+
+-- and each finite `f32` is a whole number of units
+pub whole-units : (y : Float) → T (fits binary32 y) → T (finite y) → (t : Bool) × (q : ℕ) × HasValue y t q (2 ^ 149)
+whole-units y f h = (sign y, worth (toBits binary32 y), held y f h)

@@ -183,6 +183,10 @@ module _ (a r : ℕ) (N : NearestRoot a r) where
           let u : r * 2 ^ 24 ≤ r * r = omega arith in
           omega (arith, N .above)
 
+pub opened : (n : ℕ) → rootOf n ≡ round binary32 false (2 * isqrt 213 n + flag (n - isqrt 213 n * isqrt 213 n)) (2 ^ 150)
+unfolding rootOf
+opened n = refl
+
 -- ---- the pattern of the root of m * 2 ^ (e + 23) units
 module _ (m e a r : ℕ) (lo : 2 ^ 23 ≤ m) (hi : m < 2 ^ 24) (le : 2 ≤ e) (ge : e < 380) (ia : a ≡ m * 2 ^ (23 + e % 2)) (N : NearestRoot a r) where
   abbrev n : ℕ
@@ -225,10 +229,6 @@ module _ (m e a r : ℕ) (lo : 2 ^ 23 ≤ m) (hi : m < 2 ^ 24) (le : 2 ≤ e) (g
   q-lt : q < 2 ^ 25
   q-lt = lt-root (4 * a) q q-floor (2 ^ 25) (let g : a ≤ 2 ^ 48 - 2 ^ 24 = a-le in omega arith)
 
-  opened : rootOf n ≡ round binary32 false (2 * isqrt 213 n + flag (n - isqrt 213 n * isqrt 213 n)) (2 ^ 150)
-  unfolding rootOf
-  opened = refl
-
   shift-two : (j : ℕ) → max 2 (1 - j) ≡ 2
   shift-two j = omega arith
 
@@ -244,7 +244,7 @@ module _ (m e a r : ℕ) (lo : 2 ^ 23 ≤ m) (hi : m < 2 ^ 24) (le : 2 ≤ e) (g
       let k : j + 2 - 1 ≡ e / 2 = omega arith in
       let v : packed false (e / 2) r ≡ e / 2 * 2 ^ 23 + r = omega arith in
       sym
-      (opened
+      (opened n
       ∙ leading n (4 * a) j (isqrt 213 n) q split-places (isqrt-floor 213 n bounded) q-floor l
       ∙ finished false x j 2 1 (omega arith) (omega arith)
       ∙ ap (λ (y : ℕ). ofBits binary32 (packed false (j + y - 1) (closest x (2 ^ y)))) (shift-two j)

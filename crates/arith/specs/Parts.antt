@@ -23,7 +23,12 @@ pub record Digits (bits m e : ℕ) : Type 0 where
   pub high : e < 380
   pub value : m * 2 ^ (e + 23) ≡ sigOf bits * 2 ^ expOf bits * 2 ^ 149
 
--- a whole number whose square is nearest to a: the root of a lies between r - 1/2 and r + 1/2
+-- the whole part of the root of a
+pub record WholeRoot (a q : ℕ) : Type 0 where
+  pub below : q * q ≤ a
+  pub above : a ≤ q * q + 2 * q
+
+-- the whole number nearest to the root of a, which lies between r - 1/2 and r + 1/2
 pub record NearestRoot (a r : ℕ) : Type 0 where
   pub above : r * r < a + r
   pub below : a ≤ r * (r + 1)
@@ -53,6 +58,7 @@ pub record Summed (sig exp : ℕ) : Type 0 where
   pub high : exp ≤ 1000
   pub lead : (sig ≡ 0) ⊎ (64 ≤ exp)
 
--- how many digits of a significand of 24 + t are dropped, with the exponent e counted from w below the least number: t, or as many as lie below that number
+-- How many digits are dropped of a significand of 24 + t digits, times 2 ^ e, in units of 2 ^ -(149 + w):
+-- t, so that 24 stay, or w - e where that is more, so that none stays below the least number.
 abbrev pub shiftOf : ℕ → ℕ → ℕ → ℕ
 shiftOf t w e = max t (w - e)

@@ -3,7 +3,7 @@
 use Prim.Native.Nat.{ℕ, zero, suc, _+_, _-_, _*_, _/_, _%_, _^_, min}
 use mathlib.Core.Bool.{Bool, cond}
 
--- the leading digit, which the exponent's field implies: a field of 0 has none (3.4 d, e)
+-- the leading digit, which the exponent's field implies: a field of 0 has none (3.4 c to e)
 abbrev pub lead : ℕ → ℕ
 lead zero = 0
 lead (suc x) = 2 ^ 23
@@ -20,6 +20,7 @@ expOf mag = mag / 2 ^ 23 - 1
 abbrev pub worth : ℕ → ℕ
 worth b = sigOf (b % 2 ^ 31) * 2 ^ expOf (b % 2 ^ 31)
 
--- the pattern of q * 2 ^ k units: a leading digit adds one to the field, and so does a carry; from 2 ^ 128 on it is an infinity's (4.3.1, 7.4)
+-- The pattern of q * 2 ^ k units, where q is 2 ^ 23 or more, or k is 0: the leading digit adds one to the field, and so does a carry.
+-- From 2 ^ 128 on it is an infinity's (4.3.1, 7.4).
 abbrev pub packed : Bool → ℕ → ℕ → ℕ
 packed s k q = cond s (2 ^ 31) 0 + min (k * 2 ^ 23 + q) (255 * 2 ^ 23)

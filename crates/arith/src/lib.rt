@@ -1,5 +1,6 @@
-// Arithmetic below everything: the square root and the fused multiply-add of `f32`, each equal to
-// its definition over whole numbers for every input. All of it is integers on bit patterns.
+// The arithmetic that all else stands on: the square root and the fused multiply-add of `f32`, each
+// equal to its definition over whole numbers for every input. Whatever is rounded is rounded by
+// integers on bit patterns; only tests for NaN and infinity are made on the floats themselves.
 mod multiply_add;
 mod pattern;
 mod square_root;

@@ -104,7 +104,8 @@ fn with_sign(neg: bool, m: u32) -> u32
     if neg { 0x8000_0000 + m } else { m }
 }
 
-// The value of q * 2 ^ k units with its sign: a carry out of the significand runs into the exponent.
+// The value of q * 2 ^ k units with its sign, where q has its leading digit or k is 0: a carry out of
+// the significand runs into the exponent.
 pub(crate) fn pack(neg: bool, k: u32, q: u64) -> f32
     requires { ⌜ q ≤ 2 ^ 24 ⌝ }
     ensures { λ r. ⌜ r ≡ ofBits binary32 (packed neg k q) ⌝ }

@@ -34,7 +34,7 @@ operand-requires c κs =
     let p = c .before .before in
     let g = p .before in
     let l : p .product .result < 2 ^ 48 = subst (λ (x : ℕ). x < 2 ^ 48) (sym (p .product .ensures)) (product-lt (g .before .significand .result) (g .significand2 .result) (first g) (second g)) in
-    (l, l, omega arith, omega arith, omega arith, omega arith)
+    omega arith
 
 returns : tie.Need-returns
 returns c =

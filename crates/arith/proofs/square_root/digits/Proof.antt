@@ -1,67 +1,87 @@
--- `digits`: a subnormal significand moved up, and any other with its leading digit. Assumes nothing.
+-- `digits`: a pattern's significand and exponent, in finer units, and a subnormal one moved up. Assumes nothing.
 use borrow.Author.Needs.{needs}
-use mathlib.Core.Path.{_≡_, refl, sym, ap, ap₂, _∙_, subst}
+use mathlib.Core.Path.{_≡_, sym, ap, ap₂, _∙_, subst}
 use Prim.Native.Nat.{ℕ, zero, suc, _+_, _-_, _*_, _/_, _%_, _^_, _≤_, _<_}
-use native.Mathlib.Nat.{mul-assoc, mul-one, add-comm, zero-add}
+use native.Mathlib.Nat.{mul-assoc}
 use native.Mathlib.Omega.{arith}
 use lib.Pow.{pow-add}
 use Rattle.arith.specs.Pattern.{lead, sigOf, expOf}
+use Rattle.arith.proofs.Values.{sig-lt}
+use Rattle.arith.proofs.RootCases.{sig-pos}
 use Rattle.arith.proofs.square_root.digits.Statement.{statement}
 use Rattle.arith.proofs.square_root.digits.Tie as tie
 
--- a pattern with no field is its own significand
-low-digits : (b : ℕ) → b < 2 ^ 23 → sigOf b * 2 ^ expOf b * 2 ^ 149 ≡ b * 2 ^ 126 * 2 ^ 23
-low-digits b h =
-    let f : b / 2 ^ 23 ≡ 0 = omega arith in
-    let t : b % 2 ^ 23 ≡ b = omega arith in
-    ap₂ (λ (x y : ℕ). (lead x + y) * 2 ^ (x - 1) * 2 ^ 149) f t
-    ∙ ap (λ (x : ℕ). x * 1 * 2 ^ 149) (zero-add b)
-    ∙ ap (λ (x : ℕ). x * 2 ^ 149) (mul-one b)
-    ∙ sym (mul-assoc b (2 ^ 126) (2 ^ 23))
+-- i places more
+finer : (s e i : ℕ) → s * 2 ^ (e + i) ≡ s * 2 ^ e * 2 ^ i
+finer s e i = ap (λ (x : ℕ). s * x) (pow-add 2 e i) ∙ sym (mul-assoc s (2 ^ e) (2 ^ i))
 
--- and any other has its leading digit
-high-digits : (b : ℕ) → 2 ^ 23 ≤ b → sigOf b * 2 ^ expOf b * 2 ^ 149 ≡ (b % 2 ^ 23 + 2 ^ 23) * 2 ^ (b / 2 ^ 23 + 125 + 23)
-high-digits b h =
-    let e : b / 2 ^ 23 - 1 + 149 ≡ b / 2 ^ 23 + 125 + 23 = omega arith in
-    ap (λ (x : ℕ). (x + b % 2 ^ 23) * 2 ^ (b / 2 ^ 23 - 1) * 2 ^ 149) (leading (b / 2 ^ 23) (omega arith))
-    ∙ mul-assoc (2 ^ 23 + b % 2 ^ 23) (2 ^ (b / 2 ^ 23 - 1)) (2 ^ 149)
-    ∙ ap₂ (λ (x y : ℕ). x * y) (add-comm (2 ^ 23) (b % 2 ^ 23)) (sym (pow-add 2 (b / 2 ^ 23 - 1) 149) ∙ ap (λ (x : ℕ). 2 ^ x) e)
+-- what the two parts of a pattern are
+module _ (b s e : ℕ) (pos : 0 < b) (top : b < 255 * 2 ^ 23) (s-is : s ≡ sigOf b) (e-is : e ≡ expOf b) where
+  s-pos : 0 < s
+  s-pos = subst (λ (x : ℕ). 0 < x) (sym s-is) (sig-pos b pos)
+
+  s-lt : s < 2 ^ 24
+  s-lt = subst (λ (x : ℕ). x < 2 ^ 24) (sym s-is) (sig-lt b)
+
+  e-lt : e < 254
+  e-lt = omega arith
+
+  value : s * 2 ^ (e + 126) * 2 ^ 23 ≡ sigOf b * 2 ^ expOf b * 2 ^ 149
+  value = ap (λ (x : ℕ). x * 2 ^ 23) (finer s e 126) ∙ mul-assoc (s * 2 ^ e) (2 ^ 126) (2 ^ 23) ∙ ap₂ (λ (x y : ℕ). x * 2 ^ y * 2 ^ 149) s-is e-is
+
+-- a field has its leading digit
+full : (b : ℕ) → 2 ^ 23 ≤ b → 2 ^ 23 ≤ sigOf b
+full b h = go (b / 2 ^ 23) (omega arith)
   where
-    leading : (x : ℕ) → 0 < x → lead x ≡ 2 ^ 23
-    leading zero h = absurd (let g : 0 < 0 = h in omega arith)
-    leading (suc x) h = refl
+    go : (x : ℕ) → 0 < x → 2 ^ 23 ≤ lead x + b % 2 ^ 23
+    go zero p = absurd (let g : 0 < 0 = p in omega arith)
+    go (suc x) p = omega arith
+
+place-requires : tie.Need-place-requires
+place-requires c κs =
+    let g = c .before in
+    let st = g .before .before in
+    omega (arith, s-pos _ _ _ (st .pre .0) (st .pre .1) (g .significand .ensures) (c .exponent .ensures), s-lt _ _ _ (st .pre .0) (st .pre .1) (g .significand .ensures) (c .exponent .ensures), e-lt _ _ _ (st .pre .0) (st .pre .1) (g .significand .ensures) (c .exponent .ensures))
 
 returns : tie.Need-returns
 returns c =
-    let w = c .before in
-    let b = w .before .before .args .bits in
+    let k = c .before in
+    let g = k .before in
+    let st = g .before .before in
     let d = c .place .result in
     let p = c .place .ensures in
     record {
       lead = p .lead;
       small = p .small;
       low = omega arith;
-      high = omega arith;
-      value =
-          ap (λ (x : ℕ). d .sig * x) (pow-add 2 (d .exp) 23)
-          ∙ sym (mul-assoc (d .sig) (2 ^ d .exp) (2 ^ 23))
-          ∙ ap (λ (x : ℕ). x * 2 ^ 23) (p .value ∙ ap (λ (x : ℕ). x * 2 ^ 126) (w .wide .ensures))
-          ∙ sym (low-digits b (w .before .if1 .taken));
+      high = omega (arith, e-lt _ _ _ (st .pre .0) (st .pre .1) (g .significand .ensures) (k .exponent .ensures));
+      value = finer (d .sig) (d .exp) 23 ∙ ap (λ (x : ℕ). x * 2 ^ 23) (p .value) ∙ value _ _ _ (st .pre .0) (st .pre .1) (g .significand .ensures) (k .exponent .ensures);
     }
 
 returns-2 : tie.Need-returns-2
 returns-2 c =
-    let b = c .before .before .args .bits in
-    let e : c .wide2 .result ≡ b % 2 ^ 23 + 2 ^ 23 = c .wide2 .ensures in
+    let g = c .before in
+    let st = g .before .before in
     record {
-      lead = omega arith;
-      small = omega arith;
+      lead = subst (λ (x : ℕ). 2 ^ 23 ≤ x) (sym (g .significand2 .ensures)) (full (st .args .bits) (g .before .if1 .left));
+      small = s-lt _ _ _ (st .pre .0) (st .pre .1) (g .significand2 .ensures) (c .exponent2 .ensures);
       low = omega arith;
-      high = omega arith;
-      value = ap (λ (x : ℕ). x * 2 ^ (b / 2 ^ 23 + 125 + 23)) e ∙ sym (high-digits b (c .before .if1 .left));
+      high = omega (arith, e-lt _ _ _ (st .pre .0) (st .pre .1) (g .significand2 .ensures) (c .exponent2 .ensures));
+      value =
+          finer (g .significand2 .result) (c .exponent2 .result + 126) 23
+          ∙ value _ _ _ (st .pre .0) (st .pre .1) (g .significand2 .ensures) (c .exponent2 .ensures);
     }
 
 pub digits-spec : {M : Type 1} → statement M
 digits-spec =
     tie.close
-    (tie.spec (λ c κs. search needs) (λ c κs. search needs) returns (λ c. search needs) (λ c κs. search needs) (λ c. search needs) returns-2)
+    (tie.spec
+    (λ c κs. search needs)
+    (λ c κs. search needs)
+    (λ c. search needs)
+    place-requires
+    returns
+    (λ c κs. search needs)
+    (λ c κs. search needs)
+    (λ c. search needs)
+    returns-2)

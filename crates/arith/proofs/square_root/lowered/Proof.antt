@@ -1,6 +1,6 @@
--- `lowered`: a step down never passes the root of a number above zero. Assumes nothing.
+-- `lowered`: a step down is taken only from a square above a, so never from 0. Assumes nothing.
 use borrow.Author.Needs.{needs}
-use Prim.Native.Nat.{ℕ, zero, suc, _+_, _*_, _^_, _≤_, _<_}
+use Prim.Native.Nat.{ℕ, zero, suc, _*_, _^_, _≤_, _<_}
 use native.Mathlib.Nat.{mul-le-mul}
 use native.Mathlib.Omega.{arith}
 use Rattle.arith.proofs.square_root.lowered.Statement.{statement}
@@ -15,10 +15,9 @@ abbrev μ-loop : tie.MeasureT-loop
 mul-loop : tie.Need-mul-loop Inv-loop μ-loop
 mul-loop c = omega (arith, mul-le-mul (c .loop .inv) (c .loop .inv))
 
--- from 0 there is no step: 0 * 0 is below a + 0
-some : (a q : ℕ) → 0 < a → a + q ≤ q * q → 1 ≤ q
-some a zero h k = absurd (let g : a + 0 ≤ 0 = k in omega arith)
-some a (suc q) h k = omega arith
+some : (a q : ℕ) → a < q * q → 1 ≤ q
+some a zero k = absurd (let g : a < 0 = k in omega arith)
+some a (suc q) k = omega arith
 
 pub lowered-spec : {M : Type 1} → statement M
 lowered-spec =
@@ -27,9 +26,8 @@ lowered-spec =
     Inv-loop
     μ-loop
     (λ c. search needs)
-    (λ c. search needs)
     mul-loop
-    (λ c. some _ _ (c .before .before .pre .0) (c .loop-test .taken))
-    (λ c. omega (arith, some _ _ (c .before .before .pre .0) (c .loop-test .taken)))
+    (λ c. some _ _ (c .loop-test .taken))
+    (λ c. omega (arith, some _ _ (c .loop-test .taken)))
     (λ c. search needs)
     (λ c. search needs))
