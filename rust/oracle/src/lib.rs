@@ -1,0 +1,21 @@
+//! hexx's own mesh files, compiled as they are, over tables in place of its
+//! layout and its maps, and what is asked of them.
+
+pub mod answers;
+pub mod cases;
+pub mod numbers;
+pub mod random;
+pub mod record;
+pub mod shapes;
+pub mod steps;
+pub mod storage;
+mod table;
+
+include!(concat!(env!("OUT_DIR"), "/mesh.rs"));
+
+// The mesh files look for these at the crate's root.
+pub use mesh::*;
+pub use table::{EdgeDirection, Hex, HexLayout, Place};
+
+/// What answered: the versions of glam and of the compiler.
+pub const MADE_WITH: &str = concat!("glam ", env!("GLAM_VERSION"), ", ", env!("RUSTC_VERSION"));
