@@ -1,0 +1,19 @@
+-- `step_along`: normalised, then times the distance. Assumes nothing.
+use borrow.Author.Needs.{needs}
+use Rattle.face.proofs.inset.step_along.Statement.{statement}
+use Rattle.face.proofs.inset.step_along.Tie as tie
+
+pub step-along-spec : {M : Type 1} → statement M
+step-along-spec =
+    tie.close
+    (tie.spec
+    (λ c κs. search needs)
+    (λ c κs. search needs)
+    (λ c κs. search needs)
+    (λ c κs. search needs)
+    (λ c. rw (
+      c .scale32 .ensures,
+      c .before .scale3 .ensures,
+      c .before .before .one-over .ensures,
+      c .before .before .before .len3 .ensures,
+    )))

@@ -1,0 +1,41 @@
+-- `hexagon_from`: a triangle for each number below four. Assumes nothing.
+use borrow.Author.Needs.{needs}
+use mathlib.Core.Path.{_≡_, sym, _∙_}
+use mathlib.Core.Bool.{true}
+use Prim.Native.Nat.{ℕ, _≤_}
+use native.Mathlib.Omega.{arith}
+use lib.ListN.{List·getD-eq-default}
+use Rattle.face.specs.Triangles.{kept, hexagonTriangles, noTriangle}
+use Rattle.face.proofs.triangle.hexagon_from.Statement.{statement}
+use Rattle.face.proofs.triangle.hexagon_from.Tie as tie
+
+-- no test was passed
+past : (c : tie.After-numbered5) → 4 ≤ c .before .before .before .before .before .args .t
+past c = omega arith
+
+pub hexagon-from-spec : {M : Type 1} → statement M
+hexagon-from-spec =
+    tie.close
+    (tie.spec
+    (λ c. search needs)
+    (λ c. search needs)
+    (λ c. search needs)
+    (λ c κs. search needs)
+    (λ c. rw (c .numbered .ensures, c .before .if1 .taken))
+    (λ c. search needs)
+    (λ c. search needs)
+    (λ c. search needs)
+    (λ c κs. search needs)
+    (λ c. rw (c .numbered2 .ensures, c .before .if2 .taken))
+    (λ c. search needs)
+    (λ c. search needs)
+    (λ c. search needs)
+    (λ c κs. search needs)
+    (λ c. rw (c .numbered3 .ensures, c .before .if3 .taken))
+    (λ c. search needs)
+    (λ c. search needs)
+    (λ c. search needs)
+    (λ c κs. search needs)
+    (λ c. rw (c .numbered4 .ensures, c .before .if4 .taken))
+    (λ c κs. search needs)
+    (λ c. c .numbered5 .ensures ∙ sym (List·getD-eq-default (kept true (c .before .before .before .before .before .args .m) hexagonTriangles) noTriangle (past c))))

@@ -1,0 +1,34 @@
+-- Quads and hexagons (face.rs). Definitions only.
+use mathlib.Core.List.{List, [], _∷_, map}
+use lib.Ieee.{Float}
+use Rattle.face.specs.declared.vec.Vec2.{Vec2}
+use Rattle.face.specs.declared.vec.Vec3.{Vec3}
+use Rattle.face.specs.declared.face.Quad.{Quad}
+use Rattle.face.specs.declared.face.Hexagon.{Hexagon}
+use Rattle.face.specs.declared.uv_mapping.UvOptions.{UvOptions}
+use Rattle.face.specs.Vec.{v2, v3, f0, f1, minus, over, plus2, unit2, upright, flat}
+use Rattle.face.specs.Texture.{altered, wrapped}
+
+-- Right bottom, right top, left top, left bottom; v is bv at the bottom and tv at the top (module 3).
+-- One normal serves all: the normalised left + right, with y 0.
+abbrev pub quadWith : Vec2 → Vec2 → Float → Float → Float → Float → Quad
+quadWith l r bottom top bv tv =
+    record {
+      positions = upright r bottom ∷ upright r top ∷ upright l top ∷ upright l bottom ∷ [];
+      normal = flat (unit2 (plus2 l r));
+      uvs = v2 f1 bv ∷ v2 f1 tv ∷ v2 f0 tv ∷ v2 f0 bv ∷ [];
+    }
+
+abbrev pub quadOf : Vec2 → Vec2 → Float → Float → Quad
+quadOf l r bottom top = quadWith l r bottom top f0 f1
+
+-- a bounded quad's v: (height - min) / (max - min)
+abbrev pub level : Float → Float → Float → Float
+level min max h = over (minus h min) (minus max min)
+
+abbrev pub boundedQuadOf : Vec2 → Vec2 → Float → Float → Float → Float → Quad
+boundedQuadOf l r bottom top min max = quadWith l r bottom top (level min max bottom) (level min max top)
+
+-- y 0, normal (0, 1, 0), wrapped uvs (module 3)
+abbrev pub hexagonOf : List Vec2 → Hexagon
+hexagonOf cs = record { positions = map flat cs; normal = v3 f0 f1 f0; uvs = map wrapped cs }

@@ -1,0 +1,31 @@
+-- Texture options (uv_mapping.rs). Definitions only.
+use mathlib.Core.Bool.{Bool, false}
+use lib.Ieee.{Float}
+use Rattle.arith.specs.Fused.{fma}
+use Rattle.face.specs.declared.vec.Vec2.{Vec2}
+use Rattle.face.specs.declared.uv_mapping.UvOptions.{UvOptions}
+use Rattle.face.specs.Lists.{pick}
+use Rattle.face.specs.Vec.{v2, f0, f1, f2, half, plus, minus, times, over, times2, length2, reciprocal, serves}
+
+-- what a fresh option does: scale 1, offset 0, the whole rectangle, no flip
+abbrev pub plain : UvOptions
+plain = record { scale = v2 f1 f1; offset = v2 f0 f0; min = v2 f0 f0; max = v2 f1 f1; flip = record { u = false; v = false } }
+
+-- one component: flip is 1 - u; then times scale, plus offset; then the remap, fused (module 2)
+abbrev pub component : Bool → Float → Float → Float → Float → Float → Float
+component flip scale offset min max u = fma (minus max min) (plus (times (pick flip (minus f1 u) u) scale) offset) min
+
+abbrev pub altered : UvOptions → Vec2 → Vec2
+altered o t =
+    v2 (component (o .flip .u) (o .scale .x) (o .offset .x) (o .min .x) (o .max .x) (t .x))
+    (component (o .flip .v) (o .scale .y) (o .offset .y) (o .min .y) (o .max .y) (t .y))
+
+-- the point normalised, or kept where the reciprocal does not serve
+abbrev pub unitOr : Vec2 → Float → Vec2
+unitOr p k = pick (serves k) (times2 p k) p
+
+-- then halved, plus one half (module 2)
+abbrev pub wrapped : Vec2 → Vec2
+wrapped p =
+    let q = unitOr p (reciprocal (length2 p)) in
+    v2 (plus (over (q .x) f2) half) (plus (over (q .y) f2) half)

@@ -1,0 +1,78 @@
+-- The triangles of a face of any number of points, and its counts; V is the number of points. Definitions only.
+use Prim.Native.Nat.{ℕ, _+_, _*_}
+use mathlib.Core.Bool.{Bool, true, false}
+use mathlib.Core.List.{List, [], _∷_, _++_, map}
+use lib.ListN.{length}
+use lib.Ieee.{Float, lt}
+use Rattle.face.specs.declared.inset.Inset.{Inset}
+use Rattle.face.specs.declared.inset.Inset.the-variants.{None, Centroid, SmallestEdge}
+use Rattle.face.specs.declared.triangle.VertexNumber.{VertexNumber}
+use Rattle.face.specs.declared.triangle.IndexPlace.{IndexPlace}
+use Rattle.face.specs.declared.triangle.Triangle.{Triangle}
+use Rattle.face.specs.declared.triangle.Counts.{Counts}
+use Rattle.face.specs.Lists.{pick, chain}
+use Rattle.face.specs.Vec.{f0}
+use Rattle.face.specs.Inset.{after}
+
+abbrev pub vertex : ℕ → VertexNumber
+vertex n = record { 0 = n }
+
+abbrev pub place : ℕ → IndexPlace
+place n = record { 0 = n }
+
+abbrev pub tri : ℕ → ℕ → ℕ → Triangle
+tri a b c = record { 0 = vertex a; 1 = vertex b; 2 = vertex c }
+
+-- what a list of triangles has past its end
+abbrev pub noTriangle : Triangle
+noTriangle = tri 0 0 0
+
+-- module 3
+abbrev pub quadTriangles : List Triangle
+quadTriangles = tri 2 1 0 ∷ tri 0 3 2 ∷ []
+
+abbrev pub hexagonTriangles : List Triangle
+hexagonTriangles = tri 0 2 1 ∷ tri 3 5 4 ∷ tri 0 5 3 ∷ tri 3 2 0 ∷ []
+
+abbrev pub reversed : Triangle → Triangle
+reversed t = record { 0 = t .2; 1 = t .1; 2 = t .0 }
+
+abbrev pub reversedIf : Bool → Triangle → Triangle
+reversedIf back t = pick back (reversed t) t
+
+-- for v of m, with n the next: (n + m, n, v) and (v, v + m, n + m), each reversed if the scale is below 0 ("Insets")
+abbrev pub firstOf : ℕ → ℕ → Triangle
+firstOf m v = tri (after m v + m) (after m v) v
+
+abbrev pub secondOf : ℕ → ℕ → Triangle
+secondOf m v = tri v (v + m) (after m v + m)
+
+abbrev pub connecting : Bool → ℕ → ℕ → List Triangle
+connecting back m v = reversedIf back (firstOf m v) ∷ reversedIf back (secondOf m v) ∷ []
+
+abbrev pub shifted : ℕ → Triangle → Triangle
+shifted m t = tri (t .0 .0 + m) (t .1 .0 + m) (t .2 .0 + m)
+
+-- if kept, the inner triangles follow, never reversed
+abbrev pub kept : Bool → ℕ → List Triangle → List Triangle
+kept true m ts = map (shifted m) ts
+kept false m ts = []
+
+-- -0 is not below 0
+abbrev pub ringed : Float → Bool → ℕ → List Triangle → List Triangle
+ringed k keep m ts = chain (connecting (lt k f0) m) m ++ kept keep m ts
+
+-- the triangles of a face of m points that has the triangles ts, inset
+abbrev pub insetTriangles : Inset → ℕ → List Triangle → List Triangle
+insetTriangles None m ts = ts
+insetTriangles (Centroid k keep) m ts = ringed k keep m ts
+insetTriangles (SmallestEdge k keep) m ts = ringed k keep m ts
+
+-- V vertices become 2V; 6V indices, plus 3 per inner triangle when kept
+abbrev pub ringCounts : Bool → ℕ → ℕ → Counts
+ringCounts keep m t = record { vertices = vertex (2 * m); indices = place (6 * m + 3 * pick keep t 0) }
+
+abbrev pub insetCounts : Inset → ℕ → ℕ → Counts
+insetCounts None m t = record { vertices = vertex m; indices = place (3 * t) }
+insetCounts (Centroid k keep) m t = ringCounts keep m t
+insetCounts (SmallestEdge k keep) m t = ringCounts keep m t

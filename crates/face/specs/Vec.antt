@@ -1,0 +1,119 @@
+-- Points of the plane and of space. Each float step is rounded once, in the order written. Definitions only.
+use mathlib.Core.List.{List, foldl}
+use mathlib.Core.Bool.{Bool, _&&_}
+use lib.ListN.{length}
+use lib.IntN.{pos}
+use lib.Ieee.{Float, nan, binary32, add, sub, mul, div, lt, ofBits, ofInt}
+use Rattle.arith.specs.Root.{root}
+use Rattle.face.specs.declared.vec.Vec2.{Vec2}
+use Rattle.face.specs.declared.vec.Vec3.{Vec3}
+
+abbrev pub v2 : Float → Float → Vec2
+v2 x y = record { x = x; y = y }
+
+abbrev pub v3 : Float → Float → Float → Vec3
+v3 x y z = record { x = x; y = y; z = z }
+
+-- +0, 1, 2, one half and +infinity, by their patterns
+abbrev pub f0 : Float
+f0 = ofBits binary32 0
+
+abbrev pub f1 : Float
+f1 = ofBits binary32 0x3f80_0000
+
+abbrev pub f2 : Float
+f2 = ofBits binary32 0x4000_0000
+
+abbrev pub half : Float
+half = ofBits binary32 0x3f00_0000
+
+abbrev pub top : Float
+top = ofBits binary32 0x7f80_0000
+
+-- the four steps
+abbrev pub plus : Float → Float → Float
+plus = add binary32
+
+abbrev pub minus : Float → Float → Float
+minus = sub binary32
+
+abbrev pub times : Float → Float → Float
+times = mul binary32
+
+abbrev pub over : Float → Float → Float
+over = div binary32
+
+abbrev pub plus2 : Vec2 → Vec2 → Vec2
+plus2 a b = v2 (plus (a .x) (b .x)) (plus (a .y) (b .y))
+
+abbrev pub minus2 : Vec2 → Vec2 → Vec2
+minus2 a b = v2 (minus (a .x) (b .x)) (minus (a .y) (b .y))
+
+abbrev pub times2 : Vec2 → Float → Vec2
+times2 a k = v2 (times (a .x) k) (times (a .y) k)
+
+abbrev pub over2 : Vec2 → Float → Vec2
+over2 a k = v2 (over (a .x) k) (over (a .y) k)
+
+abbrev pub plus3 : Vec3 → Vec3 → Vec3
+plus3 a b = v3 (plus (a .x) (b .x)) (plus (a .y) (b .y)) (plus (a .z) (b .z))
+
+abbrev pub minus3 : Vec3 → Vec3 → Vec3
+minus3 a b = v3 (minus (a .x) (b .x)) (minus (a .y) (b .y)) (minus (a .z) (b .z))
+
+abbrev pub times3 : Vec3 → Float → Vec3
+times3 a k = v3 (times (a .x) k) (times (a .y) k) (times (a .z) k)
+
+abbrev pub over3 : Vec3 → Float → Vec3
+over3 a k = v3 (over (a .x) k) (over (a .y) k) (over (a .z) k)
+
+abbrev pub zero2 : Vec2
+zero2 = v2 f0 f0
+
+abbrev pub zero3 : Vec3
+zero3 = v3 f0 f0 f0
+
+-- what a list of points has past its end
+abbrev pub off2 : Vec2
+off2 = v2 nan nan
+
+abbrev pub off3 : Vec3
+off3 = v3 nan nan nan
+
+-- a point of the plane at a height, and at height 0
+abbrev pub upright : Vec2 → Float → Vec3
+upright p y = v3 (p .x) y (p .y)
+
+abbrev pub flat : Vec2 → Vec3
+flat p = upright p f0
+
+-- the root of the products added left to right ("Steps that glam hides")
+abbrev pub length2 : Vec2 → Float
+length2 a = root (plus (times (a .x) (a .x)) (times (a .y) (a .y)))
+
+abbrev pub length3 : Vec3 → Float
+length3 a = root (plus (plus (times (a .x) (a .x)) (times (a .y) (a .y))) (times (a .z) (a .z)))
+
+-- the reciprocal of a length, and when it serves: finite and above 0
+abbrev pub reciprocal : Float → Float
+reciprocal l = over f1 l
+
+abbrev pub serves : Float → Bool
+serves k = lt f0 k && lt k top
+
+-- times the reciprocal of the length
+abbrev pub unit2 : Vec2 → Vec2
+unit2 a = times2 a (reciprocal (length2 a))
+
+abbrev pub unit3 : Vec3 → Vec3
+unit3 a = times3 a (reciprocal (length3 a))
+
+-- the centroid: the sum, from +0 and in order, over the count
+abbrev pub middle : {A : Type 0} → (A → A → A) → A → (A → Float → A) → List A → A
+middle plus zero over ps = over (foldl plus zero ps) (ofInt binary32 (pos (length ps)))
+
+abbrev pub middle2 : List Vec2 → Vec2
+middle2 = middle plus2 zero2 over2
+
+abbrev pub middle3 : List Vec3 → Vec3
+middle3 = middle plus3 zero3 over3
