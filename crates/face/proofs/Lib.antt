@@ -1,2 +1,5 @@
-pub mod Filling
-pub mod Ring
+-- What callers cite is public; the rest is how loops and rings are proved.
+pub mod Laws
+pub mod Bench
+mod Filling
+mod Ring
