@@ -1,13 +1,13 @@
 -- The steps of `combine` on plain numbers: two operands that are ready, each jammed to the greater exponent, and their sum. Assumes nothing.
 use mathlib.Core.Path.{_≡_, refl, sym, ap, ap₂, _∙_, subst}
 use mathlib.Core.Logic.{_⊎_, inl, inr}
-use Prim.Native.Nat.{ℕ, zero, suc, _+_, _-_, _*_, _/_, _%_, _^_, _≤_, _<_, max}
-use native.Mathlib.Nat.{le-trans, le-of-eq, le-of-lt, zero-mod, mod-mod-of-dvd, dvd-mul-right, mul-lt-mul-of-pos-right, lt-of-mul-lt-mul-right, add-mul}
+use Prim.Native.Nat.{ℕ, _+_, _-_, _*_, _/_, _%_, _^_, _≤_, _<_, max}
+use native.Mathlib.Nat.{le-trans, le-of-eq, le-of-lt, zero-mod, mod-mod-of-dvd, dvd-mul-right, add-mul}
 use native.Mathlib.Omega.{arith}
 use mathlib.Core.Bool.{Bool, true, false, not, _&&_, Bool·beq, cond}
 use lib.Dec.{T, ltb, ltb→lt, nltb→le}
-use lib.Pow.{pow-pos, pow-add, shr-shr, shr-le}
-use lib.Ieee.{Float, Format, binary32, round, sum}
+use lib.Pow.{pow-add, shr-shr, shr-le}
+use lib.Ieee.{Float, binary32, round, sum}
 use Rattle.arith.specs.Digit.{jam}
 use Rattle.arith.specs.Parts.{Ready, Summed, sumSign, sumSize}
 use Rattle.arith.proofs.Jamming.{jam-up, jam-le, jam-none, jam-zero, far, whole}

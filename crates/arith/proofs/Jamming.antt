@@ -1,7 +1,7 @@
 -- `jam` by its digits, and in a sum: where the jammed part is far below the other, or nothing is cut, the sum rounds as the exact one does. Assumes nothing.
 use mathlib.Core.Path.{_≡_, refl, sym, ap, ap₂, _∙_, subst}
 use Prim.Native.Nat.{ℕ, zero, suc, _+_, _-_, _*_, _/_, _%_, _^_, _≤_, _<_, min}
-use native.Mathlib.Nat.{le-of-lt, lt-of-lt-of-le, lt-of-le-of-lt, zero-mul, zero-div, zero-mod, mul-one, add-zero, mul-comm, mul-assoc, mul-le-mul-right, mul-lt-mul-of-pos-right, add-mul, suc-mul, div-add-mod', div-mul-le-self, mod-lt, div-eq-of-lt, mod-eq-of-lt}
+use native.Mathlib.Nat.{le-of-lt, lt-of-lt-of-le, lt-of-le-of-lt, zero-mul, zero-div, zero-mod, mul-comm, mul-assoc, mul-le-mul-right, mul-lt-mul-of-pos-right, add-mul, suc-mul, div-add-mod', div-mul-le-self, mod-lt, div-eq-of-lt, mod-eq-of-lt}
 use native.Mathlib.Omega.{arith}
 use mathlib.Core.Bool.{Bool, true, false, not, _&&_, Bool·beq, cond}
 use lib.Dec.{T, ltb, lt→ltb, ltb→lt, nltb→le}

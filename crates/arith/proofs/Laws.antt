@@ -1,5 +1,5 @@
 -- What callers cite of `fma` and `root`: the factors commute, a factor of one leaves an addition, and a NaN gives a NaN. Assumes nothing.
-use mathlib.Core.Path.{_≡_, refl, sym, ap, ap₂, _∙_}
+use mathlib.Core.Path.{_≡_, refl, ap, ap₂, _∙_}
 use Prim.Native.Nat.{ℕ, _*_}
 use native.Mathlib.Nat.{mul-comm, mul-one}
 use mathlib.Core.Bool.{Bool, true, false, cond}

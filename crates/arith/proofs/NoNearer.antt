@@ -3,15 +3,15 @@
 use mathlib.Core.Path.{_≡_, refl, sym, ap, _∙_, subst}
 use mathlib.Core.Logic.{_⊎_, inl, inr}
 use Prim.Native.Nat.{ℕ, zero, suc, _+_, _-_, _*_, _/_, _%_, _^_, _≤_, _<_, compare}
-use native.Mathlib.Nat.{zero-add, one-mul, mul-one, zero-mul, mul-comm, mul-assoc, mul-right-comm, mul-mul-mul-comm, mul-le-mul, mul-le-mul-left, mul-le-mul-right, mul-lt-mul-of-pos-right, le-refl, le-trans, le-of-eq, le-of-lt, le-of-suc-le-suc, lt-of-lt-of-le, lt-of-le-of-lt, lt-of-not-le, lt-irrefl, not-le-of-lt, eq-or-lt-of-le, le-dest, zero-lt-suc, pow-succ', suc-mul, lt-of-mul-lt-mul-right, eq-of-mul-eq-mul-right, div-add-mod', mod-lt, le-div-iff-mul-le}
+use native.Mathlib.Nat.{zero-add, mul-one, zero-mul, mul-comm, mul-assoc, mul-right-comm, mul-le-mul, mul-le-mul-left, mul-le-mul-right, mul-lt-mul-of-pos-right, le-trans, le-of-eq, le-of-lt, le-of-suc-le-suc, lt-of-lt-of-le, lt-of-le-of-lt, lt-of-not-le, not-le-of-lt, eq-or-lt-of-le, le-dest, pow-succ', suc-mul, lt-of-mul-lt-mul-right, eq-of-mul-eq-mul-right, div-add-mod', mod-lt, le-div-iff-mul-le}
 use native.Mathlib.Decide.{decLe}
 use native.Mathlib.Omega.{arith}
-use mathlib.Core.Bool.{Bool, true, false, _&&_, true≢false}
+use mathlib.Core.Bool.{Bool, true, false, _&&_}
 use lib.IntN.{ℤ, pos, negsuc}
 use lib.Dec.{T, leb, ltb, eqb, leb→le, ltb→lt, lit<, lit≤}
 use lib.Pow.{pow-add, pow-pos, pow-mono, pow-lt}
-use lib.Ieee.{Float, nan, inf, fin, binary32, up, down, fits, size, round, units, toBits}
-use lib.Ieee.Digits.{size-lt, size-reaches}
+use lib.Ieee.{Float, nan, inf, fin, binary32, up, down, fits, size, units, toBits}
+use lib.Ieee.Digits.{size-reaches}
 use lib.Ieee.Fits.{and-l, and-r, down-pos, round-fits, nan-fits}
 use lib.Ieee.Exact.{HasValue, units-val}
 use lib.Ieee.Nearest.{closest, nearest-ge}
@@ -19,10 +19,10 @@ use lib.Ieee.Scale.{finite}
 use Rattle.arith.specs.Digit.{flag}
 use Rattle.arith.specs.Pattern.{worth}
 use Rattle.arith.proofs.Values.{sign, held}
-use Rattle.arith.specs.Root.{isqrt, root, rootOf, NoFarther}
-use Rattle.arith.proofs.Digits.{size-shr, size-gt}
-use Rattle.arith.proofs.Rounding.{three, closest-lt, closest-eq, closest-gt, round-pow, dropped}
-use Rattle.arith.proofs.Roots.{Floor, isqrt-floor, le-root, lt-root, double, suc-square, opened}
+use Rattle.arith.specs.Root.{isqrt, root, NoFarther}
+use Rattle.arith.proofs.Digits.{size-gt}
+use Rattle.arith.proofs.Rounding.{three, closest-lt, closest-eq, closest-gt, round-pow}
+use Rattle.arith.proofs.Roots.{Floor, isqrt-floor, le-root, double, opened}
 use Rattle.arith.proofs.RootCases.{root-pos}
 
 -- ---- a fraction x / b and the nearest whole number: at most half a unit apart

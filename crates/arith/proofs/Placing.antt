@@ -1,12 +1,12 @@
 -- The steps of `place` and `nearest` on plain numbers. Assumes nothing.
 use mathlib.Core.Path.{_≡_, refl, sym, ap, ap₂, _∙_, subst}
-use mathlib.Core.Logic.{_⊎_, inl, inr}
+use mathlib.Core.Logic.{inl, inr}
 use Prim.Native.Nat.{ℕ, zero, suc, _+_, _-_, _*_, _/_, _%_, _^_, _≤_, _<_}
-use native.Mathlib.Nat.{le-trans, le-of-eq, lt-of-lt-of-le, lt-of-le-of-lt, one-mul, mul-comm, mul-assoc, add-mul, mul-le-mul-right, div-eq-of-lt, div-eq-of-lt-le, mod-eq-of-lt, div-add-mod', mod-lt, mul-mod-left}
+use native.Mathlib.Nat.{le-trans, le-of-eq, lt-of-lt-of-le, lt-of-le-of-lt, one-mul, mul-assoc, add-mul, mul-le-mul-right, div-eq-of-lt, div-eq-of-lt-le, mod-eq-of-lt, div-add-mod', mod-lt, mul-mod-left}
 use native.Mathlib.Numerals.{add-one}
 use native.Mathlib.Omega.{arith}
 use lib.Dec.{lit<}
-use lib.Pow.{pow-pos, pow-add, pow-mono, shl-lt}
+use lib.Pow.{pow-add, pow-mono, shl-lt}
 use lib.Ieee.Nearest.{closest}
 use Rattle.arith.specs.Parts.{Placed}
 use Rattle.arith.proofs.Digits.{pow-lt-back}

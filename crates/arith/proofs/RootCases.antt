@@ -1,9 +1,9 @@
 -- `root` of the value that a bit pattern stands for, by the patterns that the code tells apart. Assumes nothing.
 use mathlib.Core.Path.{_≡_, refl, sym, ap, ap₂, _∙_, subst}
-use Prim.Native.Nat.{ℕ, zero, suc, _+_, _-_, _*_, _/_, _%_, _^_, _≤_, _<_}
+use Prim.Native.Nat.{ℕ, zero, suc, _+_, _*_, _/_, _%_, _^_, _≤_, _<_}
 use native.Mathlib.Nat.{mul-assoc, mul-right-comm, zero-mul, mul-pos, mul-div-cancel, lt-irrefl, not-le-of-lt, le-of-lt, mod-eq-of-lt}
 use native.Mathlib.Omega.{arith}
-use mathlib.Core.Bool.{Bool, true, false, not, cond, _&&_, _||_, Bool·beq, true≢false, false≢true}
+use mathlib.Core.Bool.{Bool, true, false, not, cond, _&&_, Bool·beq, true≢false, false≢true, _||_}
 use lib.Dec.{T, leb, eqb, leb→le, le→leb, not-T, eqb-refl, eqb→eq}
 use lib.Pow.{pow-pos}
 use lib.Ieee.{Float, nan, inf, fin, up, down, binary32, odd, ofFields, ofBits, toBits, fits, isNan, ne, eq, level}

@@ -1,15 +1,13 @@
 -- `isqrt` is the whole part of the root, and the nearest whole number to the root of a significand is what `rootOf` rounds to. Assumes nothing.
 use mathlib.Core.Path.{_≡_, refl, sym, ap, ap₂, _∙_, subst}
-use mathlib.Core.Logic.{_⊎_, inl, inr}
-use Prim.Native.Nat.{ℕ, zero, suc, _+_, _-_, _*_, _/_, _%_, _^_, _≤_, _<_, min, max}
-use native.Mathlib.Nat.{add-mul, mul-add, mul-one, one-mul, mul-comm, mul-assoc, mul-mul-mul-comm, mul-le-mul, mul-le-mul-right, mul-lt-mul-of-pos-right, le-trans, le-of-eq, le-of-lt, le-of-suc-le-suc, lt-of-not-le, lt-of-lt-of-le, lt-of-le-of-lt, zero-lt-suc, not-le-of-lt, pow-suc, div-lt-iff-lt-mul, mul-pos, eq-of-mul-eq-mul-right, mod-eq-of-lt, div-eq-of-lt}
+use Prim.Native.Nat.{ℕ, zero, suc, _+_, _-_, _*_, _/_, _%_, _^_, _≤_, _<_, max}
+use native.Mathlib.Nat.{add-mul, mul-add, mul-one, one-mul, mul-comm, mul-assoc, mul-mul-mul-comm, mul-le-mul, mul-le-mul-right, mul-lt-mul-of-pos-right, le-trans, le-of-eq, le-of-lt, le-of-suc-le-suc, lt-of-not-le, lt-of-lt-of-le, lt-of-le-of-lt, zero-lt-suc, not-le-of-lt, pow-suc, div-lt-iff-lt-mul, mul-pos, eq-of-mul-eq-mul-right}
 use native.Mathlib.Numerals.{add-one}
 use native.Mathlib.Omega.{arith}
 use mathlib.Core.Bool.{Bool, true, false, not, cond}
-use lib.Dec.{T, leb, leb→le, nleb→lt, lit<, lit≤}
+use lib.Dec.{T, leb, leb→le, nleb→lt, lit≤}
 use lib.Pow.{pow-add, pow-pos, pow-mono}
-use lib.Arith.{digits-div, digits-mod}
-use lib.Ieee.{Float, binary32, round, ofBits}
+use lib.Ieee.{binary32, round, ofBits}
 use lib.Ieee.Nearest.{closest}
 use Rattle.arith.specs.Digit.{flag}
 use Rattle.arith.specs.Pattern.{packed}

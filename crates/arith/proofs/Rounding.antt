@@ -9,7 +9,7 @@ use mathlib.Core.Bool.{Bool, true, false, not}
 use lib.Dec.{T, isLe, isEq, eqb, leb→le, le→leb, eqb→eq, eqb-refl, ltb, ltb→lt, nltb→le}
 use lib.Arith.{digits-div, digits-mod, mod-mul}
 use lib.Pow.{pow-pos, pow-add}
-use lib.Ieee.{Float, Format, prec, low, size, nearest, units, round}
+use lib.Ieee.{Format, prec, low, size, nearest, units, round}
 use lib.Ieee.Fits.{round-is}
 use lib.Ieee.Nearest.{closest, closest-same}
 use Rattle.arith.specs.Digit.{flag, jam}

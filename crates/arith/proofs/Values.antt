@@ -2,17 +2,17 @@
 use mathlib.Core.Path.{_≡_, refl, sym, ap, ap₂, _∙_, subst}
 use mathlib.Core.Logic.{_⊎_, inl, inr}
 use Prim.Native.Nat.{ℕ, zero, suc, _+_, _-_, _*_, _/_, _%_, _^_, _≤_, _<_}
-use native.Mathlib.Nat.{zero-add, add-comm, mul-comm, mul-assoc, mul-left-comm, mul-pos, add-mul, mul-sub, mul-lt-mul-of-pos-right, lt-of-mul-lt-mul-right, mod-mod-of-dvd, dvd-mul-right, mul-mul-mul-comm}
+use native.Mathlib.Nat.{zero-add, add-comm, mul-comm, mul-assoc, mul-left-comm, mul-pos, add-mul, mul-sub, mul-lt-mul-of-pos-right, lt-of-mul-lt-mul-right, mod-mod-of-dvd, dvd-mul-right}
 use native.Mathlib.Omega.{arith}
 use mathlib.Core.Bool.{Bool, true, false, not, _&&_, Bool·beq, cond, true≢false}
 use lib.Dec.{T, ltb, leb, eqb, ltb→lt, lt→ltb, nltb→le}
-use lib.Pow.{pow-pos, pow-add}
+use lib.Pow.{pow-pos}
 use lib.Ieee.{Float, nan, inf, fin, Format, binary32, unlike, up, down, odd, round, sum, add, mul, ofFields, ofBits, toBits, fits, isNan}
 use lib.Ieee.Fits.{down-pos}
 use lib.Ieee.Bits.{ofBits-toBits}
 use lib.Ieee.Exact.{HasValue, odd-sign}
 use lib.Ieee.Scale.{round-same, finite}
-use Rattle.arith.specs.Pattern.{lead, sigOf, expOf, worth}
+use Rattle.arith.specs.Pattern.{lead, sigOf, worth}
 use Rattle.arith.specs.Fused.{fma}
 
 -- ---- a pattern of a finite value

@@ -1,31 +1,35 @@
 -- The insets among the bench cases that are to be proved, by computation. Assumes nothing.
 use mathlib.Core.Path.{_≡_, refl}
-use mathlib.Core.Bool.{true, false}
+use mathlib.Core.Bool.{Bool, true, false}
 use mathlib.Core.List.{[], _∷_}
+use Prim.Native.Nat.{ℕ}
 use lib.ListN.{take}
-use lib.Ieee.{Float, binary32, ofBits, lt}
-use Rattle.face.specs.declared.inset.Inset.the-variants.{Centroid}
+use lib.Ieee.{Float, lt}
+use Rattle.face.specs.declared.inset.Inset.the-variants.{Centroid, SmallestEdge}
+use Rattle.face.specs.Vec.{f0}
 use Rattle.face.specs.Triangles.{vertex, place, tri, quadTriangles, insetTriangles, insetCounts}
 
--- an inset quad: 8 vertices and 24 indices, 30 if kept
-pub quad-inset : (k : Float) → insetCounts (Centroid k false) 4 2 ≡ record { vertices = vertex 8; indices = place 24 }
-quad-inset k = refl
+-- both scaled kinds, of m points and t triangles, have v vertices and i indices
+abbrev Counted : Bool → ℕ → ℕ → ℕ → ℕ → Type 0
+Counted keep m t v i =
+    (k : Float)
+    → (insetCounts (Centroid k keep) m t ≡ record { vertices = vertex v; indices = place i }) × (insetCounts (SmallestEdge k keep) m t ≡ record { vertices = vertex v; indices = place i })
 
-pub quad-kept : (k : Float) → insetCounts (Centroid k true) 4 2 ≡ record { vertices = vertex 8; indices = place 30 }
-quad-kept k = refl
+pub quad-inset : Counted false 4 2 8 24
+quad-inset k = (refl, refl)
 
--- an inset hexagon: 12 and 36, 48 if kept
-pub hexagon-inset : (k : Float) → insetCounts (Centroid k false) 6 4 ≡ record { vertices = vertex 12; indices = place 36 }
-hexagon-inset k = refl
+pub quad-kept : Counted true 4 2 8 30
+quad-kept k = (refl, refl)
 
-pub hexagon-kept : (k : Float) → insetCounts (Centroid k true) 6 4 ≡ record { vertices = vertex 12; indices = place 48 }
-hexagon-kept k = refl
+pub hexagon-inset : Counted false 6 4 12 36
+hexagon-inset k = (refl, refl)
 
--- the first connection of a quad, at scale 1 and at scale -1
-pub first-connection : take 2 (insetTriangles (Centroid (ofBits binary32 0x3f80_0000) false) 4 quadTriangles) ≡ tri 5 1 0 ∷ tri 0 4 5 ∷ []
-unfolding lt ofBits
-first-connection = refl
+pub hexagon-kept : Counted true 6 4 12 48
+hexagon-kept k = (refl, refl)
 
-pub first-reversed : take 2 (insetTriangles (Centroid (ofBits binary32 0xbf80_0000) false) 4 quadTriangles) ≡ tri 0 1 5 ∷ tri 5 4 0 ∷ []
-unfolding lt ofBits
-first-reversed = refl
+-- the first connection of a quad, at a scale not below 0 and at one below
+pub first-connection : (k : Float) (keep : Bool) → lt k f0 ≡ false → take 2 (insetTriangles (Centroid k keep) 4 quadTriangles) ≡ tri 5 1 0 ∷ tri 0 4 5 ∷ []
+first-connection k keep e = rw e
+
+pub first-reversed : (k : Float) (keep : Bool) → lt k f0 ≡ true → take 2 (insetTriangles (Centroid k keep) 4 quadTriangles) ≡ tri 0 1 5 ∷ tri 5 4 0 ∷ []
+first-reversed k keep e = rw e

@@ -1,16 +1,15 @@
 -- What holds of an inset for every number of points V, used at four and at six alike. Assumes nothing.
 use mathlib.Core.Path.{_≡_, refl, sym, ap, _∙_, subst}
-use mathlib.Core.Logic.{_⊎_, inl, inr}
 use mathlib.Core.Bool.{Bool, true, false}
 use mathlib.Core.List.{List, [], _∷_, _++_, map}
 use Prim.Native.Nat.{ℕ, zero, suc, _+_, _-_, _*_, _/_, _%_, _≤_, _<_}
-use native.Mathlib.Nat.{mod-lt, add-zero}
+use native.Mathlib.Nat.{mod-lt}
 use native.Mathlib.Omega.{arith}
 use lib.Dec.{ltb, ltb→lt, nltb→le, T}
 use mathlib.Core.Bool.{not}
-use lib.ListN.{length, getD, take, length-append, length-map, List·getD-map, List·getD-eq-default}
+use lib.ListN.{length, getD, take, length-append, length-map, List·getD-eq-default}
 use lib.Seq.{take-at}
-use lib.Ieee.{Float, lt}
+use lib.Ieee.{Float, nan, binary32, lt, ofBits}
 use Rattle.face.specs.declared.vec.Vec2.{Vec2}
 use Rattle.face.specs.declared.vec.Vec3.{Vec3}
 use Rattle.face.specs.declared.inset.Inset.{Inset}
@@ -19,7 +18,7 @@ use Rattle.face.specs.declared.triangle.Triangle.{Triangle}
 use Rattle.face.specs.Lists.{pick, chain}
 use Rattle.face.specs.Vec.{f0}
 use Rattle.face.specs.Inset.{after, innerPoints, innerUvs}
-use Rattle.face.specs.Triangles.{noTriangle, firstOf, secondOf, reversedIf, connecting, shifted, kept, ringed, insetTriangles, insetCounts}
+use Rattle.face.specs.Triangles.{noTriangle, firstOf, secondOf, reversedIf, connecting, shifted, kept, ringed, insetTriangles, insetCounts, quadTriangles, hexagonTriangles}
 use Rattle.face.proofs.Filling.{length-each}
 use Rattle.face.proofs.Ring.{length-pairs, first-at, second-at, ring-low, ring-high}
 
@@ -39,6 +38,23 @@ twice-as-many how ps = length-append ps (innerPoints how ps) ∙ omega (arith, i
 
 pub outer-first : (how : Inset) (ps : List Vec3) → take (length ps) (ps ++ innerPoints how ps) ≡ ps
 outer-first how ps = take-at ps (innerPoints how ps) (length ps) refl
+
+pub twice-as-many-uvs : (how : Inset) (ps : List Vec3) (ts : List Vec2) → length ts ≡ length ps → length (ts ++ innerUvs how ps ts) ≡ 2 * length ps
+twice-as-many-uvs how ps ts e = length-append ts (innerUvs how ps ts) ∙ omega (arith, inner-uvs-length how ps ts e)
+
+pub outer-uvs-first : (how : Inset) (ps : List Vec3) (ts : List Vec2) → take (length ts) (ts ++ innerUvs how ps ts) ≡ ts
+outer-uvs-first how ps ts = take-at ts (innerUvs how ps ts) (length ts) refl
+
+-- what is laid: the face, and with an inset the inner points too
+abbrev pub laidPoints : Inset → List Vec3 → List Vec3
+laidPoints None ps = ps
+laidPoints (Centroid k keep) ps = ps ++ innerPoints (Centroid k keep) ps
+laidPoints (SmallestEdge k keep) ps = ps ++ innerPoints (SmallestEdge k keep) ps
+
+pub vertex-count : (how : Inset) (ps : List Vec3) (t : ℕ) → length (laidPoints how ps) ≡ insetCounts how (length ps) t .vertices .0
+vertex-count None ps t = refl
+vertex-count (Centroid k keep) ps t = twice-as-many (Centroid k keep) ps
+vertex-count (SmallestEdge k keep) ps t = twice-as-many (SmallestEdge k keep) ps
 
 -- ---- 6V indices, plus 3 for each inner triangle when kept
 kept-length : (keep : Bool) (m : ℕ) (ts : List Triangle) → length (kept keep m ts) ≡ pick keep (length ts) 0
@@ -63,6 +79,19 @@ module _ (k : Float) (keep : Bool) (m : ℕ) (ts : List Triangle) where
 
   pub second-of-point : (v : ℕ) → v < m → getD (ringed k keep m ts) (2 * v + 1) noTriangle ≡ reversedIf (lt k f0) (secondOf m v)
   second-of-point v h = ring-low k keep m ts (2 * v + 1) (omega arith) ∙ second-at (λ i. reversedIf (lt k f0) (firstOf m i)) (λ i. reversedIf (lt k f0) (secondOf m i)) noTriangle m v h
+
+-- no zero and no NaN is below 0
+pub minus-zero-keeps : lt (ofBits binary32 0x8000_0000) f0 ≡ false
+unfolding lt ofBits
+minus-zero-keeps = refl
+
+pub plus-zero-keeps : lt f0 f0 ≡ false
+unfolding lt ofBits
+plus-zero-keeps = refl
+
+pub nan-keeps : lt nan f0 ≡ false
+unfolding lt
+nan-keeps = refl
 
 map-at : (f : Triangle → Triangle) (l : List Triangle) (i : ℕ) → i < length l → getD (map f l) i noTriangle ≡ f (getD l i noTriangle)
 map-at f [] i h = absurd (let g : i < 0 = h in omega arith)
@@ -131,3 +160,31 @@ pub indices-below : (how : Inset) (m : ℕ) (ts : List Triangle) → 0 < m → (
 indices-below None m ts p b i h = b i h
 indices-below (Centroid k keep) m ts p b i h = ring-below k keep m ts b p i
 indices-below (SmallestEdge k keep) m ts p b i h = ring-below k keep m ts b p i
+
+-- ---- at four and at six
+small : {n a b c : ℕ} → T (ltb a n) → T (ltb b n) → T (ltb c n) → (a < n) × (b < n) × (c < n)
+small {n} {a} {b} {c} x y z = (ltb→lt a n x, ltb→lt b n y, ltb→lt c n z)
+
+quad-own : (i : ℕ) → i < 2 → Below 4 (getD quadTriangles i noTriangle)
+quad-own zero h = small tt tt tt
+quad-own (suc zero) h = small tt tt tt
+quad-own (suc (suc i)) h = absurd (let g : suc (suc i) < 2 = h in omega arith)
+
+hexagon-own : (i : ℕ) → i < 4 → Below 6 (getD hexagonTriangles i noTriangle)
+hexagon-own zero h = small tt tt tt
+hexagon-own (suc zero) h = small tt tt tt
+hexagon-own (suc (suc zero)) h = small tt tt tt
+hexagon-own (suc (suc (suc zero))) h = small tt tt tt
+hexagon-own (suc (suc (suc (suc i)))) h = absurd (let g : suc (suc (suc (suc i))) < 4 = h in omega arith)
+
+pub quad-indices-below : (how : Inset) (i : ℕ) → i < length (insetTriangles how 4 quadTriangles) → Below (insetCounts how 4 2 .vertices .0) (getD (insetTriangles how 4 quadTriangles) i noTriangle)
+quad-indices-below how = indices-below how 4 quadTriangles (omega arith) quad-own
+
+pub hexagon-indices-below : (how : Inset) (i : ℕ) → i < length (insetTriangles how 6 hexagonTriangles) → Below (insetCounts how 6 4 .vertices .0) (getD (insetTriangles how 6 hexagonTriangles) i noTriangle)
+hexagon-indices-below how = indices-below how 6 hexagonTriangles (omega arith) hexagon-own
+
+pub quad-index-count : (how : Inset) → 3 * length (insetTriangles how 4 quadTriangles) ≡ insetCounts how 4 2 .indices .0
+quad-index-count how = index-count how 4 quadTriangles
+
+pub hexagon-index-count : (how : Inset) → 3 * length (insetTriangles how 6 hexagonTriangles) ≡ insetCounts how 6 4 .indices .0
+hexagon-index-count how = index-count how 6 hexagonTriangles

@@ -2,12 +2,10 @@
 use mathlib.Core.List.{List, [], _∷_, map}
 use lib.Ieee.{Float}
 use Rattle.face.specs.declared.vec.Vec2.{Vec2}
-use Rattle.face.specs.declared.vec.Vec3.{Vec3}
 use Rattle.face.specs.declared.face.Quad.{Quad}
 use Rattle.face.specs.declared.face.Hexagon.{Hexagon}
-use Rattle.face.specs.declared.uv_mapping.UvOptions.{UvOptions}
 use Rattle.face.specs.Vec.{v2, v3, f0, f1, minus, over, plus2, unit2, upright, flat}
-use Rattle.face.specs.Texture.{altered, wrapped}
+use Rattle.face.specs.Texture.{wrapped}
 
 -- Right bottom, right top, left top, left bottom; v is bv at the bottom and tv at the top (module 3).
 -- One normal serves all: the normalised left + right, with y 0.

@@ -1,7 +1,6 @@
 -- Insets, over a face of any number of points; V is their number. Definitions only.
 use Prim.Native.Nat.{ℕ, _+_, _-_, _%_}
-use mathlib.Core.Bool.{Bool, true, false}
-use mathlib.Core.List.{List, [], _∷_, _++_, map}
+use mathlib.Core.List.{List, _++_, map}
 use lib.ListN.{length, getD}
 use lib.Ieee.{Float, lt, ne}
 use Rattle.face.specs.declared.vec.Vec2.{Vec2}
@@ -13,7 +12,7 @@ use Rattle.face.specs.declared.inset.InsetHexagon.{InsetHexagon}
 use Rattle.face.specs.declared.face.Quad.{Quad}
 use Rattle.face.specs.declared.face.Hexagon.{Hexagon}
 use Rattle.face.specs.Lists.{pick, each}
-use Rattle.face.specs.Vec.{f0, times, over, plus2, minus2, times2, plus3, minus3, times3, off2, off3, length3, reciprocal, middle2, middle3}
+use Rattle.face.specs.Vec.{times, over, plus2, minus2, times2, plus3, minus3, times3, off2, off3, length3, unit3, middle2, middle3}
 
 -- ---- centroid: each point p moves to p + (c - p) × scale, uvs alike
 
@@ -39,9 +38,9 @@ shorter a b = pick (lt b a) b (pick (ne a a) b a)
 abbrev pub reach : Float → Vec3 → Vec3 → Float
 reach k dp dn = times (shorter (length3 dp) (length3 dn)) k
 
--- d normalised, then times dist
+-- dist along the direction of d
 abbrev pub along : Vec3 → Float → Vec3
-along d dist = times3 (times3 d (reciprocal (length3 d))) dist
+along d dist = times3 (unit3 d) dist
 
 abbrev pub edgePoint : Float → Vec3 → Vec3 → Vec3 → Vec3
 edgePoint k p prev next =

@@ -2,7 +2,6 @@
 use Prim.Native.Nat.{ℕ, _+_, _*_}
 use mathlib.Core.Bool.{Bool, true, false}
 use mathlib.Core.List.{List, [], _∷_, _++_, map}
-use lib.ListN.{length}
 use lib.Ieee.{Float, lt}
 use Rattle.face.specs.declared.inset.Inset.{Inset}
 use Rattle.face.specs.declared.inset.Inset.the-variants.{None, Centroid, SmallestEdge}

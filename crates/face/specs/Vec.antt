@@ -87,12 +87,18 @@ upright p y = v3 (p .x) y (p .y)
 abbrev pub flat : Vec2 → Vec3
 flat p = upright p f0
 
--- the root of the products added left to right ("Steps that glam hides")
+-- the squared length: products from left to right
+abbrev pub square2 : Vec2 → Float
+square2 a = plus (times (a .x) (a .x)) (times (a .y) (a .y))
+
+abbrev pub square3 : Vec3 → Float
+square3 a = plus (plus (times (a .x) (a .x)) (times (a .y) (a .y))) (times (a .z) (a .z))
+
 abbrev pub length2 : Vec2 → Float
-length2 a = root (plus (times (a .x) (a .x)) (times (a .y) (a .y)))
+length2 a = root (square2 a)
 
 abbrev pub length3 : Vec3 → Float
-length3 a = root (plus (plus (times (a .x) (a .x)) (times (a .y) (a .y))) (times (a .z) (a .z)))
+length3 a = root (square3 a)
 
 -- the reciprocal of a length, and when it serves: finite and above 0
 abbrev pub reciprocal : Float → Float
@@ -101,14 +107,14 @@ reciprocal l = over f1 l
 abbrev pub serves : Float → Bool
 serves k = lt f0 k && lt k top
 
--- times the reciprocal of the length
+-- normalised: each component by the reciprocal of the length
 abbrev pub unit2 : Vec2 → Vec2
 unit2 a = times2 a (reciprocal (length2 a))
 
 abbrev pub unit3 : Vec3 → Vec3
 unit3 a = times3 a (reciprocal (length3 a))
 
--- the centroid: the sum, from +0 and in order, over the count
+-- the centroid: points summed one by one onto +0, and the sum divided by how many they are
 abbrev pub middle : {A : Type 0} → (A → A → A) → A → (A → Float → A) → List A → A
 middle plus zero over ps = over (foldl plus zero ps) (ofInt binary32 (pos (length ps)))
 

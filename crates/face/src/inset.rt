@@ -1,5 +1,5 @@
-// Insets of quads and hexagons, after face.rs of hexx: the inner points, and the triangles that
-// connect them to the outer ones.
+// Insets of quads and hexagons, after face.rs of hexx: the inner points. Their triangles are in
+// triangle.rt.
 ghost use mathlib.Core.Path.{_≡_};
 ghost use mathlib.Core.List.{_++_};
 ghost use Rattle.face.specs.Inset.{toward3, toward2, shrunk3, shrunk2, shorter, reach, along, edgePoint, edgeUv, edged3, edged2, innerPoints, innerUvs, insetQuadOf, insetHexagonOf};
@@ -108,8 +108,7 @@ fn reach_of(k: f32, prev: Vec3, next: Vec3) -> f32
 fn step_along(d: Vec3, dist: f32) -> Vec3
     ensures { λ r. ⌜ r ≡ along d dist ⌝ }
 {
-    let unit = crate::vec::scale3(d, crate::vec::one_over(crate::vec::len3(d)));
-    crate::vec::scale3(unit, dist)
+    crate::vec::scale3(crate::vec::normalize3(d), dist)
 }
 
 fn edge_point(k: f32, p: Vec3, prev: Vec3, next: Vec3) -> Vec3

@@ -3,7 +3,6 @@ ghost use mathlib.Core.Path.{_≡_};
 ghost use mathlib.Core.Bool.{true};
 ghost use Prim.Native.Nat.{_+_, _*_, _≤_, _<_};
 ghost use lib.ListN.{getD};
-ghost use lib.Ieee.{lt};
 ghost use Rattle.face.specs.Lists.{chain};
 ghost use Rattle.face.specs.Triangles.{tri, noTriangle, quadTriangles, hexagonTriangles, reversedIf, connecting, kept, ringed, insetTriangles, vertex, place, ringCounts, insetCounts};
 use crate::inset::Inset;
@@ -86,6 +85,7 @@ fn connection(back: bool, m: u32, t: u32) -> Triangle
     reverse_if(back, numbered(v, v + m, n + m))
 }
 
+// The connecting triangles, then the inner ones if they are kept, which turn at no scale.
 fn ring_of_quad(k: f32, keep: bool, t: u32) -> Triangle
     ensures { λ r. ⌜ r ≡ getD (ringed k keep 4 quadTriangles) t noTriangle ⌝ }
 {
@@ -93,7 +93,7 @@ fn ring_of_quad(k: f32, keep: bool, t: u32) -> Triangle
         return connection(k < 0.0, 4, t);
     }
     if keep {
-        return quad_from(4, t - 8);
+        return reverse_if(false, quad_from(4, t - 8));
     }
     numbered(0, 0, 0)
 }
@@ -105,7 +105,7 @@ fn ring_of_hexagon(k: f32, keep: bool, t: u32) -> Triangle
         return connection(k < 0.0, 6, t);
     }
     if keep {
-        return hexagon_from(6, t - 12);
+        return reverse_if(false, hexagon_from(6, t - 12));
     }
     numbered(0, 0, 0)
 }

@@ -17,7 +17,7 @@ pub struct UvOptions {
     pub flip: Flip,
 }
 
-// Options that change no uv from 0 to 1.
+// Scale 1, offset 0, the whole rectangle, no flip: but for -0, which becomes +0, nothing changes.
 pub fn default_options() -> UvOptions
     ensures { λ r. ⌜ r ≡ plain ⌝ }
 {

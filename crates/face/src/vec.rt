@@ -1,8 +1,7 @@
 // Points of the plane and of space, by value. A point of the plane has x and y; on the panel its y
 // is the z of space.
 ghost use mathlib.Core.Path.{_≡_};
-ghost use lib.Ieee.{binary32, div};
-ghost use Rattle.face.specs.Vec.{plus2, minus2, times2, plus3, minus3, times3, length2, length3, reciprocal, serves, unit2, middle2, middle3};
+ghost use Rattle.face.specs.Vec.{plus2, minus2, times2, plus3, minus3, times3, square2, square3, length2, length3, reciprocal, serves, unit2, unit3, middle2, middle3};
 
 pub struct Vec2 {
     pub x: f32,
@@ -72,16 +71,28 @@ pub fn scale3(a: Vec3, k: f32) -> Vec3
     }
 }
 
+pub fn squared2(a: Vec2) -> f32
+    ensures { λ r. ⌜ r ≡ square2 a ⌝ }
+{
+    a.x * a.x + a.y * a.y
+}
+
+pub fn squared3(a: Vec3) -> f32
+    ensures { λ r. ⌜ r ≡ square3 a ⌝ }
+{
+    a.x * a.x + a.y * a.y + a.z * a.z
+}
+
 pub fn len2(a: Vec2) -> f32
     ensures { λ r. ⌜ r ≡ length2 a ⌝ }
 {
-    arith::root(a.x * a.x + a.y * a.y)
+    arith::root(squared2(a))
 }
 
 pub fn len3(a: Vec3) -> f32
     ensures { λ r. ⌜ r ≡ length3 a ⌝ }
 {
-    arith::root(a.x * a.x + a.y * a.y + a.z * a.z)
+    arith::root(squared3(a))
 }
 
 // One over a length: what every normalising multiplies by.
@@ -105,6 +116,12 @@ pub fn normalize2(a: Vec2) -> Vec2
     ensures { λ r. ⌜ r ≡ unit2 a ⌝ }
 {
     scale2(a, one_over(len2(a)))
+}
+
+pub fn normalize3(a: Vec3) -> Vec3
+    ensures { λ r. ⌜ r ≡ unit3 a ⌝ }
+{
+    scale3(a, one_over(len3(a)))
 }
 
 // The centroids: the sum from +0 in order, over the count.

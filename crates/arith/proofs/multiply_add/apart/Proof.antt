@@ -1,7 +1,7 @@
 -- `apart`: the difference of the larger and the smaller. Assumes nothing.
 use borrow.Author.Needs.{needs}
 use borrow.Author.Tests.{lt-ltb, le-ltb}
-use mathlib.Core.Path.{_≡_, sym, ap}
+use mathlib.Core.Path.{sym, ap}
 use mathlib.Core.Bool.{Bool, cond}
 use Prim.Native.Nat.{_-_}
 use Rattle.arith.proofs.multiply_add.apart.Statement.{statement}

@@ -1,7 +1,7 @@
 -- `jammed`: shifted out and back, a number is the same exactly where nothing is cut. Assumes nothing.
 use borrow.Author.Needs.{needs}
-use mathlib.Core.Path.{_≡_, sym, ap, _∙_, subst}
-use Prim.Native.Nat.{ℕ, _+_, _*_, _/_, _%_, _^_, _≤_, min}
+use mathlib.Core.Path.{_≡_, ap, _∙_}
+use Prim.Native.Nat.{ℕ, _+_, _*_, _/_, _^_, _≤_}
 use native.Mathlib.Omega.{arith}
 use Rattle.arith.specs.Digit.{jam}
 use Rattle.arith.proofs.Jamming.{jam-min, jam-even, jam-odd, twice-high}

@@ -1,7 +1,7 @@
 -- `size_of_sum`: the sum of like signs, and the gap of unlike ones. Assumes nothing.
 use borrow.Author.Needs.{needs}
-use mathlib.Core.Path.{_≡_, sym, ap, _∙_}
-use mathlib.Core.Bool.{Bool, Bool·beq, cond}
+use mathlib.Core.Path.{sym, ap, _∙_}
+use mathlib.Core.Bool.{Bool, cond}
 use Prim.Native.Nat.{_+_, _-_}
 use lib.Dec.{ltb}
 use Rattle.arith.proofs.multiply_add.size_of_sum.Statement.{statement}

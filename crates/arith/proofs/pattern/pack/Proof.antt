@@ -1,7 +1,7 @@
 -- `pack`: its pattern is `packed`, and never that of a NaN. Assumes nothing.
 use borrow.Author.Needs.{needs}
 use mathlib.Core.Path.{_≡_, sym, ap, _∙_, subst}
-use mathlib.Core.Bool.{Bool, not, cond}
+use mathlib.Core.Bool.{not, cond}
 use Prim.Native.Nat.{ℕ, _+_, _*_, _^_, min}
 use lib.Dec.{T}
 use lib.Ieee.{binary32, nanBits, ofBits}

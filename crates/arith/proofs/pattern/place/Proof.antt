@@ -3,7 +3,6 @@ use mathlib.Core.Path.{_≡_}
 use Prim.Native.Nat.{ℕ, suc, _+_, _-_, _^_, _≤_, _<_}
 use native.Mathlib.Omega.{arith}
 use lib.Count.{leadingZeros, leading-top}
-use Rattle.arith.specs.Parts.{Placed}
 use Rattle.arith.proofs.Placing.{enough, spare, placed}
 use Rattle.arith.proofs.pattern.place.Statement.{statement}
 use Rattle.arith.proofs.pattern.place.Tie as tie

@@ -1,6 +1,6 @@
 -- `with_sign`: the sign is the highest of 32 digits. Assumes nothing.
 use borrow.Author.Needs.{needs}
-use mathlib.Core.Path.{_≡_, sym, ap, _∙_}
+use mathlib.Core.Path.{sym, ap, _∙_}
 use mathlib.Core.Bool.{Bool, cond}
 use Prim.Native.Nat.{_+_, _^_}
 use native.Mathlib.Nat.{zero-add}

@@ -2,15 +2,14 @@
 use borrow.Author.Needs.{needs}
 use mathlib.Core.Path.{_≡_, refl, sym, ap, _∙_, subst}
 use mathlib.Core.Bool.{false, not}
-use Prim.Native.Nat.{ℕ, _+_, _-_, _*_, _/_, _%_, _^_, _≤_, _<_}
-use native.Mathlib.Nat.{mod-eq-of-lt}
+use Prim.Native.Nat.{ℕ, _+_, _*_, _/_, _%_, _^_, _<_}
 use native.Mathlib.Omega.{arith}
 use lib.Dec.{T}
 use lib.Ieee.{binary32, ofBits, nanBits}
 use Rattle.arith.specs.Pattern.{packed}
 use Rattle.arith.specs.Parts.{NearestRoot}
 use Rattle.arith.proofs.Packing.{packed-no-nan}
-use Rattle.arith.proofs.Roots.{root-ge, root-lt, a-ge, a-le, root-bits}
+use Rattle.arith.proofs.Roots.{root-lt, a-le, root-bits}
 use Rattle.arith.proofs.square_root.of_digits.Statement.{statement}
 use Rattle.arith.proofs.square_root.of_digits.Tie as tie
 

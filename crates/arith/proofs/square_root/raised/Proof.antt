@@ -1,6 +1,6 @@
 -- `raised`: a step up is taken only where the next square is no more than a. Assumes nothing.
 use borrow.Author.Needs.{needs}
-use Prim.Native.Nat.{ℕ, _+_, _-_, _*_, _^_, _≤_, _<_}
+use Prim.Native.Nat.{ℕ, _-_, _*_, _^_, _≤_, _<_}
 use native.Mathlib.Nat.{mul-le-mul, lt-of-not-le}
 use native.Mathlib.Omega.{arith}
 use Rattle.arith.proofs.Roots.{square-suc}

@@ -1,6 +1,6 @@
 -- `join3_six`: a list of 6 is its 6 elements, and so is the other. Assumes nothing.
 use borrow.Author.Needs.{needs}
-use mathlib.Core.Path.{_≡_, ap₂}
+use mathlib.Core.Path.{ap₂}
 use mathlib.Core.List.{List, _++_}
 use Rattle.face.specs.declared.vec.Vec3.{Vec3}
 use Rattle.face.specs.Vec.{off3}

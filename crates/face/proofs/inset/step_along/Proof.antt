@@ -1,4 +1,4 @@
--- `step_along`: normalised, then times the distance. Assumes nothing.
+-- `step_along`: the direction, then times the distance. Assumes nothing.
 use borrow.Author.Needs.{needs}
 use Rattle.face.proofs.inset.step_along.Statement.{statement}
 use Rattle.face.proofs.inset.step_along.Tie as tie
@@ -9,11 +9,4 @@ step-along-spec =
     (tie.spec
     (λ c κs. search needs)
     (λ c κs. search needs)
-    (λ c κs. search needs)
-    (λ c κs. search needs)
-    (λ c. rw (
-      c .scale32 .ensures,
-      c .before .scale3 .ensures,
-      c .before .before .one-over .ensures,
-      c .before .before .before .len3 .ensures,
-    )))
+    (λ c. rw (c .scale3 .ensures, c .before .normalize3 .ensures)))

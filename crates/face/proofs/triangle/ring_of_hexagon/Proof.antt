@@ -1,6 +1,6 @@
 -- `ring_of_hexagon`: the connecting triangles, then the inner ones if they are kept. Assumes nothing.
 use borrow.Author.Needs.{needs}
-use mathlib.Core.Path.{_≡_, sym, ap, _∙_}
+use mathlib.Core.Path.{sym, ap, _∙_}
 use mathlib.Core.Bool.{Bool}
 use Prim.Native.Nat.{_-_}
 use lib.ListN.{getD}
@@ -16,11 +16,13 @@ ring-of-hexagon-spec =
     (λ c κs. search needs)
     (λ c. let a = c .before .before .args in c .connection .ensures ∙ sym (ring-low (a .k) (a .keep) 6 hexagonTriangles (a .t) (c .before .if1 .taken)))
     (λ c κs. search needs)
+    (λ c κs. search needs)
     (λ c.
-    let a = c .before .before .before .args in
-    c .hexagon-from .ensures
-    ∙ ap (λ (x : Bool). getD (kept x 6 hexagonTriangles) (a .t - 12) noTriangle) (sym (c .before .if2 .taken))
-    ∙ sym (ring-high (a .k) (a .keep) 6 hexagonTriangles (a .t) (c .before .before .if1 .left)))
+    let a = c .before .before .before .before .args in
+    c .reverse-if .ensures
+    ∙ c .before .hexagon-from .ensures
+    ∙ ap (λ (x : Bool). getD (kept x 6 hexagonTriangles) (a .t - 12) noTriangle) (sym (c .before .before .if2 .taken))
+    ∙ sym (ring-high (a .k) (a .keep) 6 hexagonTriangles (a .t) (c .before .before .before .if1 .left)))
     (λ c κs. search needs)
     (λ c.
     let a = c .before .before .before .args in

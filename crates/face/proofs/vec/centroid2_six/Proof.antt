@@ -2,7 +2,7 @@
 use borrow.Author.Needs.{needs}
 use Prim.Native.Nat.{_-_}
 use native.Mathlib.Omega.{arith}
-use mathlib.Core.Path.{_≡_, refl}
+use mathlib.Core.Path.{refl}
 use Rattle.face.specs.Vec.{plus2, over2, zero2, off2}
 use Rattle.face.proofs.Filling.{Summed, summed-more, middle-done, six}
 use Rattle.face.proofs.vec.centroid2_six.Statement.{statement}
