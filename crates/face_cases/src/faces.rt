@@ -2,15 +2,15 @@
 use crate::cells;
 use crate::cells::CELLS;
 use crate::cells::OUTPUTS;
+use crate::layout;
 use face::face::Hexagon;
 use face::face::Quad;
 use face::inset::Inset;
 use face::inset::InsetHexagon;
 use face::inset::InsetQuad;
-use face::triangle::Counts;
 use face::vec::Vec2;
 use face::vec::Vec3;
-ghost use Prim.Native.Nat.{_+_, _*_, _≤_};
+ghost use Prim.Native.Nat.{_≤_};
 
 pub(crate) enum Part {
     Points,
@@ -100,6 +100,7 @@ fn whole_quad(words: &[u32; CELLS], how: Inset) -> InsetQuad {
     face::inset::inset_quad(how, alter_quad(words, plain))
 }
 
+// A quad in the room of a hexagon: the places past the quad's are not read.
 fn twelve3(ps: [Vec3; 8]) -> [Vec3; 12] {
     let p = ps[7];
     [
@@ -136,94 +137,13 @@ fn twelve2(ps: [Vec2; 8]) -> [Vec2; 12] {
     ]
 }
 
-// The lesser number. A count that is too great for its line differs there from the record's.
-fn at_most(n: u32, most: usize) -> usize
-    requires { ⌜ most ≤ 16 ⌝ }
-    ensures { λ r. ⌜ r ≤ most ⌝ }
-{
-    if n < most as u32 {
-        return n as usize;
-    }
-    most
-}
-
-fn put_counts(cells: [u32; OUTPUTS], counts: Counts) -> [u32; OUTPUTS] {
-    let mut out = cells;
-    out[0] = counts.vertices.0;
-    out[1] = counts.indices.0;
-    out
-}
-
-fn put_positions(cells: [u32; OUTPUTS], at: usize, ps: [Vec3; 12], n: usize) -> [u32; OUTPUTS]
-    requires { ⌜ (n ≤ 12) × (at + 3 * n ≤ 146) ⌝ }
-{
-    let mut out = cells;
-    for i in 0usize..n {
-        let more = cells::put3(out, at + 3 * i, ps[i]);
-        out = more;
-    }
-    out
-}
-
-// The one normal of a face, for each of its vertices.
-fn put_normals(cells: [u32; OUTPUTS], at: usize, normal: Vec3, n: usize) -> [u32; OUTPUTS]
-    requires { ⌜ (n ≤ 12) × (at + 3 * n ≤ 146) ⌝ }
-{
-    let mut out = cells;
-    for i in 0usize..n {
-        let more = cells::put3(out, at + 3 * i, normal);
-        out = more;
-    }
-    out
-}
-
-fn put_uvs(cells: [u32; OUTPUTS], at: usize, ts: [Vec2; 12], n: usize) -> [u32; OUTPUTS]
-    requires { ⌜ (n ≤ 12) × (at + 2 * n ≤ 146) ⌝ }
-{
-    let mut out = cells;
-    for i in 0usize..n {
-        let more = cells::put2(out, at + 2 * i, ts[i]);
-        out = more;
-    }
-    out
-}
-
-fn put_quad_triangles(cells: [u32; OUTPUTS], how: Inset, n: usize) -> [u32; OUTPUTS]
-    requires { ⌜ n ≤ 10 ⌝ }
-{
-    let mut out = cells;
-    for i in 0usize..n {
-        let t = face::triangle::quad_triangle(how, i as u32);
-        let more = cells::put_triangle(out, 66 + 3 * i, t);
-        out = more;
-    }
-    out
-}
-
-fn put_hexagon_triangles(cells: [u32; OUTPUTS], how: Inset, n: usize) -> [u32; OUTPUTS]
-    requires { ⌜ n ≤ 16 ⌝ }
-{
-    let mut out = cells;
-    for i in 0usize..n {
-        let t = face::triangle::hexagon_triangle(how, i as u32);
-        let more = cells::put_triangle(out, 98 + 3 * i, t);
-        out = more;
-    }
-    out
-}
-
 fn quad(words: &[u32; CELLS]) -> [u32; OUTPUTS] {
     let how = cells::take_inset(words, 19);
     let made = whole_quad(words, how);
+    let counts = face::triangle::quad_counts(how);
     let ps = made.positions;
     let ts = made.uvs;
-    let counts = face::triangle::quad_counts(how);
-    let n = at_most(counts.vertices.0, 8);
-    let counted = put_counts([0u32; OUTPUTS], counts);
-    let placed = put_positions(counted, 2, twelve3(ps), n);
-    let turned = put_normals(placed, 26, made.normal, n);
-    let textured = put_uvs(turned, 50, twelve2(ts), n);
-    put_quad_triangles(textured, how, at_most(counts.indices.0 / 3, 10))
+    layout::put_face(4, how, counts, twelve3(ps), made.normal, twelve2(ts))
 }
 
 fn corners(words: &[u32; CELLS]) -> [Vec2; 6] {
@@ -272,15 +192,10 @@ fn whole_hexagon(words: &[u32; CELLS], how: Inset) -> InsetHexagon {
 fn hexagon(words: &[u32; CELLS]) -> [u32; OUTPUTS] {
     let how = cells::take_inset(words, 22);
     let made = whole_hexagon(words, how);
+    let counts = face::triangle::hexagon_counts(how);
     let ps = made.positions;
     let ts = made.uvs;
-    let counts = face::triangle::hexagon_counts(how);
-    let n = at_most(counts.vertices.0, 12);
-    let counted = put_counts([0u32; OUTPUTS], counts);
-    let placed = put_positions(counted, 2, ps, n);
-    let turned = put_normals(placed, 38, made.normal, n);
-    let textured = put_uvs(turned, 74, ts, n);
-    put_hexagon_triangles(textured, how, at_most(counts.indices.0 / 3, 16))
+    layout::put_face(6, how, counts, ps, made.normal, ts)
 }
 
 // The cells of a line's answers; those past the part's own are 0 and not compared.

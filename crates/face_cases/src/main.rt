@@ -2,6 +2,7 @@
 // differ.
 mod cells;
 mod faces;
+mod layout;
 mod report;
 
 use cells::CELLS;

@@ -1,6 +1,6 @@
 -- A tally, and what one case adds to it. Definitions only.
 use Prim.Native.Nat.{ℕ, _+_}
-use mathlib.Core.Bool.{Bool, true, false, cond}
+use mathlib.Core.Bool.{true, false, cond}
 use lib.Dec.{eqb, ltb}
 use Rattle.record.specs.declared.tally.Tally.{Tally}
 

@@ -1,8 +1,8 @@
 -- `pattern`: what equals itself is no NaN, and what does not is the one NaN. Assumes nothing.
-use mathlib.Core.Path.{_≡_, refl, sym, ap, _∙_}
-use mathlib.Core.Bool.{Bool, true, false, not, _&&_, _||_, false≢true, true≢false}
+use mathlib.Core.Path.{_≡_, refl, sym, _∙_}
+use mathlib.Core.Bool.{Bool, true, false, not, false≢true, true≢false}
 use Prim.Native.Nat.{ℕ, _*_}
-use lib.Dec.{T, eqb}
+use lib.Dec.{T}
 use lib.Ieee.{Float, nan, inf, fin, eq, level, up, down, isNan, binary32, toBits}
 use borrow.Author.Needs.{needs}
 use borrow.Author.Tests.{eq-eqb}

@@ -1,8 +1,8 @@
--- `face_cases::faces::put_uvs` is safe: the last vertex ends within the line. Assumes nothing.
+-- `face_cases::layout::put_uvs` is safe: the last vertex ends within the line. Assumes nothing.
 use Prim.Native.Nat.{_-_}
 use borrow.Author.Needs.{needs}
-use Rattle.face_cases.proofs.faces.put_uvs.Statement.{statement}
-use Rattle.face_cases.proofs.faces.put_uvs.Tie as tie
+use Rattle.face_cases.proofs.layout.put_uvs.Statement.{statement}
+use Rattle.face_cases.proofs.layout.put_uvs.Tie as tie
 
 abbrev Inv-loop : tie.InvT-loop
 Inv-loop at n ts out₀ i₀ out i = Unit {0}
