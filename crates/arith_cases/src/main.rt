@@ -1,43 +1,23 @@
 // Compares the square root and the fused multiply-add of `arith` with a record of the C library's
 // answers, bit by bit, and writes how many differ.
-mod record;
-mod tally;
+mod report;
 
-use record::PATTERNS;
-use tally::Tally;
+use record::tally;
+use record::tally::Tally;
 
-// The number of a pattern. The record has one NaN, and the language makes its own.
-fn float(bits: u32) -> f32 {
-    if bits % 0x8000_0000 > 0x7f80_0000 {
-        return 0.0 / 0.0;
-    }
-    f32::from_bits(bits)
-}
-
-// The pattern of a number, with every NaN as the record's.
-fn pattern(x: f32) -> u32 {
-    if x == x {
-        return f32::to_bits(x);
-    }
-    0x7fc0_0000
-}
+// How many patterns the grid has, and so the cells of the record's longest line.
+const PATTERNS: usize = 50;
 
 // The tally with the root of one pattern compared.
 fn with_root(t: Tally, x: u32, recorded: u32) -> Tally {
-    let made = pattern(arith::root(float(x)));
-    if made == recorded {
-        return tally::with_same(t);
-    }
-    tally::with_difference(t, x, 0, 0, made, recorded)
+    let made = record::pattern(arith::root(record::float(x)));
+    tally::with_case(t, x, 0, 0, made, recorded)
 }
 
 // The tally with one triple compared.
 fn with_fused(t: Tally, a: u32, b: u32, c: u32, recorded: u32) -> Tally {
-    let made = pattern(arith::fused(float(a), float(b), float(c)));
-    if made == recorded {
-        return tally::with_same(t);
-    }
-    tally::with_difference(t, a, b, c, made, recorded)
+    let made = record::pattern(arith::fused(record::float(a), record::float(b), record::float(c)));
+    tally::with_case(t, a, b, c, made, recorded)
 }
 
 fn with_root_line(t: Tally) -> Tally {
@@ -146,23 +126,20 @@ fn with_triples(t: Tally) -> Tally {
     with_triple_lines(t, n)
 }
 
-// Whether all parts read, and nothing follows them.
-fn is_whole(of_root: Tally, of_fused: Tally) -> bool {
+// Whether each of the parts read.
+fn all_read(of_root: Tally, of_fused: Tally) -> bool {
     if !of_root.reads {
         return false;
     }
-    if !of_fused.reads {
-        return false;
-    }
-    record::ended()
+    of_fused.reads
 }
 
 fn main() {
     let of_root = roots();
     let of_fused = with_triples(grid());
-    if is_whole(of_root, of_fused) {
-        tally::report(of_root, of_fused);
+    if record::ended(all_read(of_root, of_fused)) {
+        report::report(of_root, of_fused);
     } else {
-        tally::refuse();
+        report::refuse();
     }
 }

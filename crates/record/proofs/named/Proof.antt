@@ -1,8 +1,8 @@
--- `arith_cases::record::named` is safe and ends: `i` counts up to the name's length. Assumes nothing.
+-- `record::named` is safe and ends: `i` counts up to the name's length. Assumes nothing.
 use Prim.Native.Nat.{_-_}
 use borrow.Author.Needs.{needs}
-use Rattle.arith_cases.proofs.record.named.Statement.{statement}
-use Rattle.arith_cases.proofs.record.named.Tie as tie
+use Rattle.record.proofs.named.Statement.{statement}
+use Rattle.record.proofs.named.Tie as tie
 
 abbrev Inv-loop : tie.InvT-loop
 Inv-loop text name i₀ i = Unit {0}

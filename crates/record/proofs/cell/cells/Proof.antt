@@ -1,10 +1,10 @@
--- `arith_cases::record::cells` is safe and ends: `i` counts up to the number of cells, which a write keeps. Assumes nothing.
+-- `record::cell::cells` is safe and ends: `i` counts up to the number of cells, which a write keeps. Assumes nothing.
 use Prim.Native.Nat.{_-_, _≤_}
 use mathlib.Core.Path.{_≡_}
 use lib.ListN.{length, length-set}
 use borrow.Author.Needs.{needs}
-use Rattle.arith_cases.proofs.record.cells.Statement.{statement}
-use Rattle.arith_cases.proofs.record.cells.Tie as tie
+use Rattle.record.proofs.cell.cells.Statement.{statement}
+use Rattle.record.proofs.cell.cells.Tie as tie
 
 abbrev Inv-loop : tie.InvT-loop
 Inv-loop text words₀ i₀ words i = (length words ≡ length words₀) × (i ≤ length words₀)

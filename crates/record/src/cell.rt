@@ -1,15 +1,18 @@
-// The record on standard input: text in cells of nine bytes, each eight characters and a space, or a
-// line's end after the last cell of a line. So a line of n cells has 9 * n bytes.
-ghost use Prim.Native.Nat.{_≤_};
+// The text of a record: cells of nine bytes, each eight characters and a space, or a line's end
+// after the last cell of a line. So a line of n cells has 9 * n bytes.
+ghost use mathlib.Core.Path.{_≡_};
+ghost use mathlib.Core.Bool.{true};
+ghost use Prim.Native.Nat.{_≤_, _^_};
 ghost use lib.ListN.{length};
+ghost use Rattle.record.specs.Cell.{below};
 
-// How many patterns the record has, and so the cells of its longest line.
-pub(crate) const PATTERNS: usize = 50;
-
-enum Read {
+pub(crate) enum Read {
     Number(u32),
     Nothing,
 }
+
+// The cells of the longest line.
+const LONGEST: usize = 172;
 
 // The value of a digit, or 16 where the byte is none of 0 to 9 and a to f.
 fn digit(byte: u8) -> u32 {
@@ -29,8 +32,9 @@ fn digit(byte: u8) -> u32 {
 }
 
 // The number that the cell at a place spells in a base of at most 16, if the cell ends as it should.
-fn cell(text: &[u8], at: usize, base: u32, end: u8) -> Read
+pub(crate) fn cell(text: &[u8], at: usize, base: u32, end: u8) -> Read
     requires { ⌜ (base ≤ 16) × (at ≤ 4096) ⌝ }
+    ensures { λ r. ⌜ below (base ^ 8) r ⌝ }
 {
     if at + 9 > text.len() {
         return Read::Nothing;
@@ -54,7 +58,7 @@ fn cell(text: &[u8], at: usize, base: u32, end: u8) -> Read
 // Takes a line apart into its patterns, and answers whether it has as many cells as asked. A buffer
 // may be longer than the line that it starts with.
 fn cells(text: &[u8], words: &mut [u32]) -> bool
-    requires { ⌜ length (now words) ≤ 50 ⌝ }
+    requires { ⌜ length (now words) ≤ 172 ⌝ }
 {
     let mut i = 0;
     while i < words.len() {
@@ -73,9 +77,11 @@ fn cells(text: &[u8], words: &mut [u32]) -> bool
 }
 
 // Reads a line by way of a buffer, and answers whether it was there.
-fn line_by(text: &mut [u8], words: &mut [u32]) -> bool {
+pub(crate) fn line_by(text: &mut [u8], words: &mut [u32]) -> bool
+    ensures { λ r. ⌜ (r ≡ true → length (now (words .entry)) ≤ 172) ⌝ }
+{
     let n = words.len();
-    if n > PATTERNS {
+    if n > LONGEST {
         return false;
     }
     let size = n * 9;
@@ -87,45 +93,4 @@ fn line_by(text: &mut [u8], words: &mut [u32]) -> bool {
         return false;
     }
     cells(text, words)
-}
-
-// Reads a line of as many patterns as there is room for, and answers whether it was there.
-pub(crate) fn line(words: &mut [u32]) -> bool {
-    let mut text = io::buffer();
-    line_by(&mut text, words)
-}
-
-// Whether a line starts with a name.
-fn named(text: &[u8; 18], name: &[u8; 9]) -> bool {
-    let mut i = 0;
-    while i < 9 {
-        if text[i] != name[i] {
-            return false;
-        }
-        i += 1;
-    }
-    true
-}
-
-// Reads a line that names a part and counts what it holds, and answers the count. It answers 0 where
-// the line is not there: a part that holds nothing is none.
-pub(crate) fn count(name: &[u8; 9]) -> u32 {
-    let mut text = [0u8; 18];
-    let got = io::read_full(0, &mut text);
-    if got < 18 {
-        return 0;
-    }
-    if !named(&text, name) {
-        return 0;
-    }
-    match cell(&text, 9, 10, b'\n') {
-        Read::Number(n) => n,
-        Read::Nothing => 0,
-    }
-}
-
-// Whether nothing is left to read. A read that fails is no end.
-pub(crate) fn ended() -> bool {
-    let mut one = [0u8; 1];
-    libc::read(0, &mut one) == 0
 }
