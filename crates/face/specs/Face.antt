@@ -7,8 +7,8 @@ use Rattle.face.specs.declared.face.Hexagon.{Hexagon}
 use Rattle.face.specs.Vec.{v2, v3, f0, f1, minus, over, plus2, unit2, upright, flat}
 use Rattle.face.specs.Texture.{wrapped}
 
--- Right bottom, right top, left top, left bottom; v is bv at the bottom and tv at the top (module 3).
--- One normal serves all: the normalised left + right, with y 0.
+-- F1 to F3: a quad that goes round from its right bottom, with the v of its bottom and of its top. Its
+-- normal points away from the cell, midway between the two corners.
 abbrev pub quadWith : Vec2 → Vec2 → Float → Float → Float → Float → Quad
 quadWith l r bottom top bv tv =
     record {
@@ -20,13 +20,13 @@ quadWith l r bottom top bv tv =
 abbrev pub quadOf : Vec2 → Vec2 → Float → Float → Quad
 quadOf l r bottom top = quadWith l r bottom top f0 f1
 
--- a bounded quad's v: (height - min) / (max - min)
+-- F4: which share of the range a height has reached
 abbrev pub level : Float → Float → Float → Float
 level min max h = over (minus h min) (minus max min)
 
 abbrev pub boundedQuadOf : Vec2 → Vec2 → Float → Float → Float → Float → Quad
 boundedQuadOf l r bottom top min max = quadWith l r bottom top (level min max bottom) (level min max top)
 
--- y 0, normal (0, 1, 0), wrapped uvs (module 3)
+-- F5: the corners laid flat in their order, facing up
 abbrev pub hexagonOf : List Vec2 → Hexagon
 hexagonOf cs = record { positions = map flat cs; normal = v3 f0 f1 f0; uvs = map wrapped cs }

@@ -14,7 +14,7 @@ use Rattle.face.specs.declared.face.Hexagon.{Hexagon}
 use Rattle.face.specs.Lists.{pick, each}
 use Rattle.face.specs.Vec.{times, over, plus2, minus2, times2, plus3, minus3, times3, off2, off3, length3, unit3, middle2, middle3}
 
--- ---- centroid: each point p moves to p + (c - p) × scale, uvs alike
+-- ---- I2: toward the middle of the points, and uvs toward the middle of the uvs
 
 abbrev pub toward3 : Vec3 → Float → Vec3 → Vec3
 toward3 c k p = plus3 p (times3 (minus3 c p) k)
@@ -28,7 +28,7 @@ shrunk3 k ps = map (toward3 (middle3 ps) k) ps
 abbrev pub shrunk2 : Float → List Vec2 → List Vec2
 shrunk2 k ps = map (toward2 (middle2 ps) k) ps
 
--- ---- smallest edge: along the unit directions to the next and then the previous neighbour, each times the shorter edge × scale
+-- ---- I3, I4: toward both neighbours, by a share of the shorter of the two edges
 
 -- the shorter of two lengths, as the crate's `min` has it by run: where one is a NaN, the other
 abbrev pub shorter : Float → Float → Float
@@ -42,6 +42,7 @@ reach k dp dn = times (shorter (length3 dp) (length3 dn)) k
 abbrev pub along : Vec3 → Float → Vec3
 along d dist = times3 (unit3 d) dist
 
+-- I3: to the next neighbour first, which the bits show
 abbrev pub edgePoint : Float → Vec3 → Vec3 → Vec3 → Vec3
 edgePoint k p prev next =
     let dp = minus3 prev p in
@@ -49,7 +50,7 @@ edgePoint k p prev next =
     let dist = reach k dp dn in
     plus3 (plus3 p (along dn dist)) (along dp dist)
 
--- uvs move by dist / edge length along the uv differences, next first
+-- I4: on each of the two edges, the share of it that the point has gone
 abbrev pub edgeUv : Float → Vec3 → Vec3 → Vec3 → Vec2 → Vec2 → Vec2 → Vec2
 edgeUv k p prev next t tprev tnext =
     let dp = minus3 prev p in
@@ -77,7 +78,7 @@ edged3 k ps = each (pointAt k ps (length ps)) (length ps)
 abbrev pub edged2 : Float → List Vec3 → List Vec2 → List Vec2
 edged2 k ps ts = each (uvAt k ps ts (length ps)) (length ps)
 
--- ---- the inner face: with no inset it is the face itself, and is not laid
+-- ---- I1: the inner face; with no inset it is the face itself, and is not laid
 
 abbrev pub innerPoints : Inset → List Vec3 → List Vec3
 innerPoints None ps = ps
@@ -89,7 +90,7 @@ innerUvs None ps ts = ts
 innerUvs (Centroid k keep) ps ts = shrunk2 k ts
 innerUvs (SmallestEdge k keep) ps ts = edged2 k ps ts
 
--- ---- the whole face, inset: the outer points first
+-- ---- I5: both faces as one, the outer first
 
 abbrev pub insetQuadOf : Inset → Quad → InsetQuad
 insetQuadOf how q =

@@ -11,7 +11,7 @@ use Rattle.face.specs.Vec.{v2, f0, f1, f2, half, plus, minus, times, ove
 abbrev pub plain : UvOptions
 plain = record { scale = v2 f1 f1; offset = v2 f0 f0; min = v2 f0 f0; max = v2 f1 f1; flip = record { u = false; v = false } }
 
--- one component: flip is 1 - u; then times scale, plus offset; then the remap, fused (module 2)
+-- T1 to T3: one component mirrored, scaled and moved, a rounding each, and laid into the rectangle in one
 abbrev pub component : Bool → Float → Float → Float → Float → Float → Float
 component flip scale offset min max u = fma (minus max min) (plus (times (pick flip (minus f1 u) u) scale) offset) min
 
@@ -20,11 +20,11 @@ altered o t =
     v2 (component (o .flip .u) (o .scale .x) (o .offset .x) (o .min .x) (o .max .x) (t .x))
     (component (o .flip .v) (o .scale .y) (o .offset .y) (o .min .y) (o .max .y) (t .y))
 
--- the point normalised, or kept where the reciprocal does not serve
+-- the direction of p by its reciprocal length k, or p itself where k does not serve
 abbrev pub unitOr : Vec2 → Float → Vec2
 unitOr p k = pick (serves k) (times2 p k) p
 
--- then halved, plus one half (module 2)
+-- T4: the circle about zero becomes the one within the texture
 abbrev pub wrapped : Vec2 → Vec2
 wrapped p =
     let q = unitOr p (reciprocal (length2 p)) in

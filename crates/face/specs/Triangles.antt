@@ -26,10 +26,11 @@ tri a b c = record { 0 = vertex a; 1 = vertex b; 2 = vertex c }
 abbrev pub noTriangle : Triangle
 noTriangle = tri 0 0 0
 
--- module 3
+-- F3
 abbrev pub quadTriangles : List Triangle
 quadTriangles = tri 2 1 0 ∷ tri 0 3 2 ∷ []
 
+-- F5
 abbrev pub hexagonTriangles : List Triangle
 hexagonTriangles = tri 0 2 1 ∷ tri 3 5 4 ∷ tri 0 5 3 ∷ tri 3 2 0 ∷ []
 
@@ -39,7 +40,7 @@ reversed t = record { 0 = t .2; 1 = t .1; 2 = t .0 }
 abbrev pub reversedIf : Bool → Triangle → Triangle
 reversedIf back t = pick back (reversed t) t
 
--- for v of m, with n the next: (n + m, n, v) and (v, v + m, n + m), each reversed if the scale is below 0 ("Insets")
+-- I6: the two triangles between the outer edge from v to its next and the inner edge of the same points
 abbrev pub firstOf : ℕ → ℕ → Triangle
 firstOf m v = tri (after m v + m) (after m v) v
 
@@ -52,12 +53,12 @@ connecting back m v = reversedIf back (firstOf m v) ∷ reversedIf back (secondO
 abbrev pub shifted : ℕ → Triangle → Triangle
 shifted m t = tri (t .0 .0 + m) (t .1 .0 + m) (t .2 .0 + m)
 
--- if kept, the inner triangles follow, never reversed
+-- I8: the face's own triangles on the inner points, the same way round at every scale
 abbrev pub kept : Bool → ℕ → List Triangle → List Triangle
 kept true m ts = map (shifted m) ts
 kept false m ts = []
 
--- -0 is not below 0
+-- I7: turned back below 0 alone, so neither at -0 nor at a NaN
 abbrev pub ringed : Float → Bool → ℕ → List Triangle → List Triangle
 ringed k keep m ts = chain (connecting (lt k f0) m) m ++ kept keep m ts
 
@@ -67,7 +68,7 @@ insetTriangles None m ts = ts
 insetTriangles (Centroid k keep) m ts = ringed k keep m ts
 insetTriangles (SmallestEdge k keep) m ts = ringed k keep m ts
 
--- V vertices become 2V; 6V indices, plus 3 per inner triangle when kept
+-- I5, I9: m points with an inset, whose face has t triangles of its own
 abbrev pub ringCounts : Bool → ℕ → ℕ → Counts
 ringCounts keep m t = record { vertices = vertex (2 * m); indices = place (6 * m + 3 * pick keep t 0) }
 

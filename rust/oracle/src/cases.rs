@@ -20,6 +20,36 @@ pub const QUADS: usize = 260;
 /// See [`POINTS`].
 pub const HEXAGONS: usize = 220;
 
+/// Cases of each kind.
+pub struct Cases {
+    pub points: Vec<(UVOptions, Vec2)>,
+    pub wraps: Vec<Vec2>,
+    pub quads: Vec<QuadCase>,
+    pub hexagons: Vec<HexagonCase>,
+}
+
+/// The cases of the record.
+#[must_use]
+pub fn recorded() -> Cases {
+    Cases {
+        points: points(),
+        wraps: wraps(),
+        quads: quads(),
+        hexagons: hexagons(),
+    }
+}
+
+/// `count` cases of each kind, all drawn.
+pub fn drawn(random: &mut Random, count: usize) -> Cases {
+    let texture = |random: &mut Random| (drawn_texture(random), point(random));
+    Cases {
+        points: (0..count).map(|_| texture(random)).collect(),
+        wraps: (0..count).map(|_| point(random)).collect(),
+        quads: (0..count).map(|_| drawn_quad(random)).collect(),
+        hexagons: (0..count).map(|_| drawn_hexagon(random)).collect(),
+    }
+}
+
 /// Both orders of texture and inset.
 const WHENS: [When; 2] = [When::Before, When::After];
 
@@ -27,8 +57,7 @@ const WHENS: [When; 2] = [When::Before, When::After];
 const MODES: [InsetScaleMode; 2] = [InsetScaleMode::Centroid, InsetScaleMode::SmallestEdge];
 
 /// Texture options, each with a point to alter.
-#[must_use]
-pub fn points() -> Vec<(UVOptions, Vec2)> {
+fn points() -> Vec<(UVOptions, Vec2)> {
     let mut random = Random::new(0x7061_6e65);
     let textures = textures();
     let mut cases = Vec::new();
@@ -44,8 +73,7 @@ pub fn points() -> Vec<(UVOptions, Vec2)> {
 }
 
 /// Points to wrap.
-#[must_use]
-pub fn wraps() -> Vec<Vec2> {
+fn wraps() -> Vec<Vec2> {
     let mut random = Random::new(0x7772_6170);
     let mut cases: Vec<Vec2> = ENDS.iter().map(|&end| vec2(end, 0.0)).collect();
     cases.extend(ENDS.iter().map(|&end| vec2(-0.0, -end)));
@@ -55,8 +83,7 @@ pub fn wraps() -> Vec<Vec2> {
 }
 
 /// Quads.
-#[must_use]
-pub fn quads() -> Vec<QuadCase> {
+fn quads() -> Vec<QuadCase> {
     let mut random = Random::new(0x7175_6164);
     let mut cases = Vec::new();
     let regular = regular_quads();
@@ -79,8 +106,7 @@ pub fn quads() -> Vec<QuadCase> {
 }
 
 /// Hexagons.
-#[must_use]
-pub fn hexagons() -> Vec<HexagonCase> {
+fn hexagons() -> Vec<HexagonCase> {
     let mut random = Random::new(0x6865_7861);
     let mut cases = Vec::new();
     let regular = regular_hexagons();

@@ -2,7 +2,7 @@
 
 use crate::answers::{self, HexagonCase, QuadCase, When};
 use crate::{FaceOptions, InsetScaleMode, MeshInfo, UVOptions};
-use crate::{cases, numbers::LIMIT};
+use crate::{cases::Cases, numbers::LIMIT};
 use glam::{Vec2, Vec3};
 use std::io::{self, Write};
 
@@ -15,23 +15,28 @@ pub fn bits(x: f32) -> u32 {
     if x.is_nan() { NAN } else { x.to_bits() }
 }
 
-/// Writes the whole record.
-pub fn write(out: &mut impl Write) -> io::Result<()> {
-    let points = cases::points();
-    part(out, "points", 14, &points, |line, (options, point)| {
-        line.given_texture(options);
-        line.given(&point.to_array());
-        line.vec2(options.alter_uv(*point));
-    })?;
-    part(out, "wraps", 4, &cases::wraps(), |line, point| {
+/// Writes a record of `cases`.
+pub fn write(out: &mut impl Write, cases: &Cases) -> io::Result<()> {
+    part(
+        out,
+        "points",
+        14,
+        &cases.points,
+        |line, (options, point)| {
+            line.given_texture(options);
+            line.given(&point.to_array());
+            line.vec2(options.alter_uv(*point));
+        },
+    )?;
+    part(out, "wraps", 4, &cases.wraps, |line, point| {
         line.given(&point.to_array());
         line.vec2(answers::wrap(*point));
     })?;
-    part(out, "quads", 119, &cases::quads(), |line, case| {
+    part(out, "quads", 119, &cases.quads, |line, case| {
         line.given_quad(case);
         line.mesh(&answers::quad(case), 8, 30);
     })?;
-    part(out, "hexagons", 172, &cases::hexagons(), |line, case| {
+    part(out, "hexagons", 172, &cases.hexagons, |line, case| {
         line.given_hexagon(case);
         line.mesh(&answers::hexagon(case), 12, 48);
     })

@@ -2,11 +2,12 @@
 //! against bits, and counts in which cases other steps would be noticed.
 
 use glam::{BVec2, Vec2, Vec3};
-use oracle::answers::{self, HexagonCase, QuadCase};
+use oracle::answers;
+use oracle::cases::{self, Cases};
 use oracle::random::Random;
 use oracle::record::bits;
 use oracle::steps::{self, Mesh, WRITTEN, Way};
-use oracle::{MeshInfo, UVOptions, cases, numbers};
+use oracle::{MeshInfo, numbers};
 use std::hint::black_box;
 use std::mem::{align_of, size_of};
 
@@ -262,14 +263,6 @@ impl Counts {
     }
 }
 
-/// The faces' cases, recorded or drawn.
-struct Cases {
-    points: Vec<(UVOptions, Vec2)>,
-    wraps: Vec<Vec2>,
-    quads: Vec<QuadCase>,
-    hexagons: Vec<HexagonCase>,
-}
-
 /// The written steps, and those that differ from them in one choice.
 fn ways() -> Vec<(&'static str, Way)> {
     vec![
@@ -377,29 +370,10 @@ fn ways() -> Vec<(&'static str, Way)> {
 
 /// Compares hexx's faces with the steps, on the record's cases and on others.
 fn faces() {
-    let recorded = Cases {
-        points: cases::points(),
-        wraps: cases::wraps(),
-        quads: cases::quads(),
-        hexagons: cases::hexagons(),
-    };
+    let recorded = cases::recorded();
     let mut random = Random::new(2);
     let count = DRAWN / 10;
-    let drawn = Cases {
-        points: (0..count)
-            .map(|_| {
-                (
-                    cases::drawn_texture(&mut random),
-                    numbers::point(&mut random),
-                )
-            })
-            .collect(),
-        wraps: (0..count).map(|_| numbers::point(&mut random)).collect(),
-        quads: (0..count).map(|_| cases::drawn_quad(&mut random)).collect(),
-        hexagons: (0..count)
-            .map(|_| cases::drawn_hexagon(&mut random))
-            .collect(),
-    };
+    let drawn = cases::drawn(&mut random, count);
     let wild = wild(&mut random, count);
     for (kind, cases) in [
         ("recorded", recorded),
