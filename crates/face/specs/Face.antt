@@ -1,4 +1,4 @@
--- Quads and hexagons (face.rs). Definitions only.
+-- Quads and hexagons (face.rs); F1 to F5 are rows of docs/TRACE.md. Definitions only.
 use mathlib.Core.List.{List, [], _∷_, map}
 use lib.Ieee.{Float}
 use Rattle.face.specs.declared.vec.Vec2.{Vec2}
@@ -8,7 +8,7 @@ use Rattle.face.specs.Vec.{v2, v3, f0, f1, minus, over, plus2, unit2, up
 use Rattle.face.specs.Texture.{wrapped}
 
 -- F1 to F3: a quad that goes round from its right bottom, with the v of its bottom and of its top. Its
--- normal points away from the cell, midway between the two corners.
+-- normal is the direction of the sum of the two corners, level.
 abbrev pub quadWith : Vec2 → Vec2 → Float → Float → Float → Float → Quad
 quadWith l r bottom top bv tv =
     record {

@@ -1,4 +1,4 @@
--- Insets, over a face of any number of points; V is their number. Definitions only.
+-- Insets, over a face of any number of points; I1 to I5 are rows of docs/TRACE.md. Definitions only.
 use Prim.Native.Nat.{ℕ, _+_, _-_, _%_}
 use mathlib.Core.List.{List, _++_, map}
 use lib.ListN.{length, getD}

@@ -1,4 +1,4 @@
--- Texture options (uv_mapping.rs). Definitions only.
+-- Texture options (uv_mapping.rs); T1 to T4 are rows of docs/TRACE.md. Definitions only.
 use mathlib.Core.Bool.{Bool, false}
 use lib.Ieee.{Float}
 use Rattle.arith.specs.Fused.{fma}
@@ -24,7 +24,7 @@ altered o t =
 abbrev pub unitOr : Vec2 → Float → Vec2
 unitOr p k = pick (serves k) (times2 p k) p
 
--- T4: the circle about zero becomes the one within the texture
+-- T4: that, halved, about the middle of the texture
 abbrev pub wrapped : Vec2 → Vec2
 wrapped p =
     let q = unitOr p (reciprocal (length2 p)) in

@@ -1,4 +1,4 @@
--- The triangles of a face of any number of points, and its counts; V is the number of points. Definitions only.
+-- The triangles of a face of any number of points, and its counts; F3 to I9 are rows of docs/TRACE.md. Definitions only.
 use Prim.Native.Nat.{ℕ, _+_, _*_}
 use mathlib.Core.Bool.{Bool, true, false}
 use mathlib.Core.List.{List, [], _∷_, _++_, map}
