@@ -1,5 +1,5 @@
--- What callers cite is public; the rest is how loops and rings are proved.
+-- What callers cite is public; the rest is how rings are proved.
 pub mod Laws
 pub mod Bench
-mod Filling
+pub mod Filling
 mod Ring

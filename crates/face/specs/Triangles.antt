@@ -68,11 +68,14 @@ insetTriangles None m ts = ts
 insetTriangles (Centroid k keep) m ts = ringed k keep m ts
 insetTriangles (SmallestEdge k keep) m ts = ringed k keep m ts
 
+abbrev pub counts : ℕ → ℕ → Counts
+counts v i = record { vertices = vertex v; indices = place i }
+
 -- I5, I9: m points with an inset, whose face has t triangles of its own
 abbrev pub ringCounts : Bool → ℕ → ℕ → Counts
-ringCounts keep m t = record { vertices = vertex (2 * m); indices = place (6 * m + 3 * pick keep t 0) }
+ringCounts keep m t = counts (2 * m) (6 * m + 3 * pick keep t 0)
 
 abbrev pub insetCounts : Inset → ℕ → ℕ → Counts
-insetCounts None m t = record { vertices = vertex m; indices = place (3 * t) }
+insetCounts None m t = counts m (3 * t)
 insetCounts (Centroid k keep) m t = ringCounts keep m t
 insetCounts (SmallestEdge k keep) m t = ringCounts keep m t

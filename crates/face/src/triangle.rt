@@ -4,14 +4,14 @@ ghost use mathlib.Core.Bool.{true};
 ghost use Prim.Native.Nat.{_+_, _*_, _≤_, _<_};
 ghost use lib.ListN.{getD};
 ghost use Rattle.face.specs.Lists.{chain};
-ghost use Rattle.face.specs.Triangles.{tri, noTriangle, quadTriangles, hexagonTriangles, reversedIf, connecting, kept, ringed, insetTriangles, vertex, place, ringCounts, insetCounts};
+ghost use Rattle.face.specs.Triangles.{tri, noTriangle, quadTriangles, hexagonTriangles, reversedIf, connecting, kept, ringed, insetTriangles, counts, ringCounts, insetCounts};
 use crate::inset::Inset;
 
-// The number of a vertex within its face.
-pub struct VertexNumber(pub u32);
+// The number of a vertex, within its face or within a whole mesh.
+pub struct VertexNumber(pub usize);
 
 // A place in the list of indices.
-pub struct IndexPlace(pub u32);
+pub struct IndexPlace(pub usize);
 
 pub struct Triangle(pub VertexNumber, pub VertexNumber, pub VertexNumber);
 
@@ -21,14 +21,14 @@ pub struct Counts {
     pub indices: IndexPlace,
 }
 
-fn numbered(a: u32, b: u32, c: u32) -> Triangle
+fn numbered(a: usize, b: usize, c: usize) -> Triangle
     ensures { λ r. ⌜ r ≡ tri a b c ⌝ }
 {
     Triangle(VertexNumber(a), VertexNumber(b), VertexNumber(c))
 }
 
 // The triangles of a quad whose vertices are counted from m, and none from the third on.
-fn quad_from(m: u32, t: u32) -> Triangle
+fn quad_from(m: usize, t: usize) -> Triangle
     requires { ⌜ m ≤ 6 ⌝ }
     ensures { λ r. ⌜ r ≡ getD (kept true m quadTriangles) t noTriangle ⌝ }
 {
@@ -41,7 +41,7 @@ fn quad_from(m: u32, t: u32) -> Triangle
     numbered(0, 0, 0)
 }
 
-fn hexagon_from(m: u32, t: u32) -> Triangle
+fn hexagon_from(m: usize, t: usize) -> Triangle
     requires { ⌜ m ≤ 6 ⌝ }
     ensures { λ r. ⌜ r ≡ getD (kept true m hexagonTriangles) t noTriangle ⌝ }
 {
@@ -73,7 +73,7 @@ fn reverse_if(back: bool, t: Triangle) -> Triangle
 }
 
 // The t-th of the 2m triangles that connect m outer points to the inner ones.
-fn connection(back: bool, m: u32, t: u32) -> Triangle
+fn connection(back: bool, m: usize, t: usize) -> Triangle
     requires { ⌜ (0 < m) × (m ≤ 6) × (t < 2 * m) ⌝ }
     ensures { λ r. ⌜ r ≡ getD (chain (connecting back m) m) t noTriangle ⌝ }
 {
@@ -86,7 +86,7 @@ fn connection(back: bool, m: u32, t: u32) -> Triangle
 }
 
 // The connecting triangles, then the inner ones if they are kept, which turn at no scale.
-fn ring_of_quad(k: f32, keep: bool, t: u32) -> Triangle
+fn ring_of_quad(k: f32, keep: bool, t: usize) -> Triangle
     ensures { λ r. ⌜ r ≡ getD (ringed k keep 4 quadTriangles) t noTriangle ⌝ }
 {
     if t < 8 {
@@ -98,7 +98,7 @@ fn ring_of_quad(k: f32, keep: bool, t: u32) -> Triangle
     numbered(0, 0, 0)
 }
 
-fn ring_of_hexagon(k: f32, keep: bool, t: u32) -> Triangle
+fn ring_of_hexagon(k: f32, keep: bool, t: usize) -> Triangle
     ensures { λ r. ⌜ r ≡ getD (ringed k keep 6 hexagonTriangles) t noTriangle ⌝ }
 {
     if t < 12 {
@@ -111,7 +111,7 @@ fn ring_of_hexagon(k: f32, keep: bool, t: u32) -> Triangle
 }
 
 // The t-th triangle of a quad with its inset, and three zeros where there is none.
-pub fn quad_triangle(how: Inset, t: u32) -> Triangle
+pub fn quad_triangle(how: Inset, t: usize) -> Triangle
     ensures { λ r. ⌜ r ≡ getD (insetTriangles how 4 quadTriangles) t noTriangle ⌝ }
 {
     match how {
@@ -121,7 +121,7 @@ pub fn quad_triangle(how: Inset, t: u32) -> Triangle
     }
 }
 
-pub fn hexagon_triangle(how: Inset, t: u32) -> Triangle
+pub fn hexagon_triangle(how: Inset, t: usize) -> Triangle
     ensures { λ r. ⌜ r ≡ getD (insetTriangles how 6 hexagonTriangles) t noTriangle ⌝ }
 {
     match how {
@@ -131,8 +131,8 @@ pub fn hexagon_triangle(how: Inset, t: u32) -> Triangle
     }
 }
 
-fn counted(vertices: u32, indices: u32) -> Counts
-    ensures { λ r. ⌜ r ≡ record { vertices = vertex vertices; indices = place indices } ⌝ }
+fn counted(vertices: usize, indices: usize) -> Counts
+    ensures { λ r. ⌜ r ≡ counts vertices indices ⌝ }
 {
     Counts {
         vertices: VertexNumber(vertices),
@@ -140,7 +140,7 @@ fn counted(vertices: u32, indices: u32) -> Counts
     }
 }
 
-fn ring_counts(keep: bool, m: u32, t: u32) -> Counts
+fn ring_counts(keep: bool, m: usize, t: usize) -> Counts
     requires { ⌜ (m ≤ 6) × (t ≤ 4) ⌝ }
     ensures { λ r. ⌜ r ≡ ringCounts keep m t ⌝ }
 {

@@ -63,6 +63,14 @@ pub(crate) fn take_inset(words: &[u32; CELLS], at: usize) -> Inset
     Inset::SmallestEdge(take(words, at + 1), mark(words, at + 2))
 }
 
+// A count or a vertex number as a cell: one that is too great becomes a number that no face has.
+pub(crate) fn narrow(n: usize) -> u32 {
+    if n < 0xffff_ffff {
+        return n as u32;
+    }
+    0xffff_ffff
+}
+
 pub(crate) fn put2(cells: [u32; OUTPUTS], at: usize, p: Vec2) -> [u32; OUTPUTS]
     requires { ⌜ at + 2 ≤ 146 ⌝ }
 {
@@ -86,8 +94,8 @@ pub(crate) fn put_triangle(cells: [u32; OUTPUTS], at: usize, t: Triangle) -> [u3
     requires { ⌜ at + 3 ≤ 146 ⌝ }
 {
     let mut out = cells;
-    out[at] = t.0.0;
-    out[at + 1] = t.1.0;
-    out[at + 2] = t.2.0;
+    out[at] = narrow(t.0.0);
+    out[at + 1] = narrow(t.1.0);
+    out[at + 2] = narrow(t.2.0);
     out
 }

@@ -10,20 +10,19 @@ use face::vec::Vec3;
 ghost use Prim.Native.Nat.{_+_, _*_, _≤_};
 
 // The lesser number. A count that is too great for its line differs there from the record's.
-fn at_most(n: u32, most: usize) -> usize
-    requires { ⌜ most ≤ 16 ⌝ }
+fn at_most(n: usize, most: usize) -> usize
     ensures { λ r. ⌜ r ≤ most ⌝ }
 {
-    if n < most as u32 {
-        return n as usize;
+    if n < most {
+        return n;
     }
     most
 }
 
 fn put_counts(cells: [u32; OUTPUTS], counts: Counts) -> [u32; OUTPUTS] {
     let mut out = cells;
-    out[0] = counts.vertices.0;
-    out[1] = counts.indices.0;
+    out[0] = cells::narrow(counts.vertices.0);
+    out[1] = cells::narrow(counts.indices.0);
     out
 }
 
@@ -61,7 +60,7 @@ fn put_uvs(cells: [u32; OUTPUTS], at: usize, ts: [Vec2; 12], n: usize) -> [u32; 
     out
 }
 
-fn triangle(corners: usize, how: Inset, t: u32) -> Triangle {
+fn triangle(corners: usize, how: Inset, t: usize) -> Triangle {
     if corners == 4 {
         return face::triangle::quad_triangle(how, t);
     }
@@ -79,7 +78,7 @@ fn put_triangles(
 {
     let mut out = cells;
     for i in 0usize..n {
-        let more = cells::put_triangle(out, at + 3 * i, triangle(corners, how, i as u32));
+        let more = cells::put_triangle(out, at + 3 * i, triangle(corners, how, i));
         out = more;
     }
     out
