@@ -1,0 +1,59 @@
+-- Worked facts of the range and of refusals, by computation. Assumes nothing.
+use mathlib.Core.Path.{_≡_, refl}
+use mathlib.Core.Bool.{Bool, true, false}
+use mathlib.Core.List.{List, [], _∷_, map}
+use Prim.Native.Nat.{ℕ}
+use lib.Ieee.{Float, nan, binary32, ofBits, neg, le}
+use Rattle.face.specs.Triangles.{counts}
+use Rattle.face.specs.declared.vec.Vec2.{Vec2}
+use Rattle.face.specs.declared.vec.Vec3.{Vec3}
+use Rattle.face.specs.Vec.{v2, v3, f0}
+use Rattle.answer.specs.declared.answer.Buffer.{Buffer}
+use Rattle.answer.specs.declared.answer.Refusal.{Refusal}
+use Rattle.answer.specs.declared.answer.Refusal.the-variants.{Shape, Range, Neighbour, Limit, Room, NoFace, Index, Empty, Sheet}
+use Rattle.answer.specs.declared.answer.Answer.the-variants.{Done, Refused}
+use Rattle.answer.specs.Answers.{numberOf, countsOf, valueOf2, valueOf3, after, limited}
+use Rattle.answer.specs.Checks.{inRange, namesOption, isNeighbour, cellCount}
+
+-- the number of a pattern is in range
+abbrev RangedAt : ℕ → Bool
+RangedAt p = inRange (ofBits binary32 p)
+
+-- 1,000,000 and -1,000,000, both zeros, the least above 0
+pub in-range : map RangedAt (0x4974_2400 ∷ 0xc974_2400 ∷ 0 ∷ 0x8000_0000 ∷ 1 ∷ []) ≡ true ∷ true ∷ true ∷ true ∷ true ∷ []
+unfolding ofBits neg le
+in-range = refl
+
+-- the next numbers outside, both infinities, a NaN's pattern
+pub out-of-range : map RangedAt (0x4974_2401 ∷ 0xc974_2401 ∷ 0x7f80_0000 ∷ 0xff80_0000 ∷ 0x7fc0_0000 ∷ []) ≡ false ∷ false ∷ false ∷ false ∷ false ∷ []
+unfolding ofBits neg le
+out-of-range = refl
+
+pub nan-out-of-range : inRange nan ≡ false
+unfolding ofBits neg le
+nan-out-of-range = refl
+
+-- each refusal's number, and 5 whichever buffer is short
+pub refusal-numbers : (b : Buffer) → map (λ e. numberOf (Refused e)) (Shape ∷ Range ∷ Neighbour ∷ Limit ∷ Room b ∷ NoFace ∷ Index ∷ Empty ∷ Sheet ∷ []) ≡ 1 ∷ 2 ∷ 3 ∷ 4 ∷ 5 ∷ 6 ∷ 7 ∷ 8 ∷ 9 ∷ []
+refusal-numbers b = refl
+
+-- whatever the refusal: both counts 0, other values +0, what is lent as it was
+pub refusal-counts : (e : Refusal) → countsOf (Refused e) ≡ counts 0 0
+refusal-counts e = refl
+
+pub refusal-values : (e : Refusal) (p : Vec2) (q : Vec3) → (valueOf2 (Refused e) p ≡ v2 f0 f0) × (valueOf3 (Refused e) q ≡ v3 f0 f0 f0)
+refusal-values e p q = (refl, refl)
+
+pub refusal-leaves : {A : Type 0} (e : Refusal) (old new : A) → after (Refused e) old new ≡ old
+refusal-leaves e old new = refl
+
+-- 65,536 vertices can be numbered, and one more cannot
+pub limit-passes : (i : ℕ) → limited (counts 65536 i) ≡ Done (counts 65536 i)
+limit-passes i = refl
+
+pub limit-refuses : (i : ℕ) → limited (counts 65537 i) ≡ Refused Limit
+limit-refuses i = refl
+
+-- N5, N8, N9: the last number that passes, and the first that does not
+pub cells-and-options : (cellCount 65536 ≡ true) × (cellCount 65537 ≡ false) × (namesOption 255 0 ≡ true) × (namesOption 63 64 ≡ true) × (namesOption 64 64 ≡ false) × (isNeighbour 4294967295 0 ≡ true) × (isNeighbour 4 5 ≡ true) × (isNeighbour 5 5 ≡ false) × (isNeighbour 4294967294 65536 ≡ false)
+cells-and-options = (refl, refl, refl, refl, refl, refl, refl, refl, refl)

@@ -1,0 +1,13 @@
+-- `value_of2`: its two cases. Assumes nothing.
+use borrow.Author.Needs.{needs}
+use Rattle.answer.proofs.answer.value_of2.Statement.{statement}
+use Rattle.answer.proofs.answer.value_of2.Tie as tie
+
+pub value-of2-spec : {M : Type 1} → statement M
+value-of2-spec =
+    tie.close
+    (tie.spec
+    (λ c. search needs)
+    (λ c. search needs)
+    (λ c. rw (c .enum-told .given .1))
+    (λ c. rw (c .enum-told2 .given .1)))
