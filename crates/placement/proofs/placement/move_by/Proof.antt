@@ -1,0 +1,14 @@
+-- `move_by`: its two cases. Assumes nothing.
+use borrow.Author.Needs.{needs}
+use Rattle.placement.proofs.placement.move_by.Statement.{statement}
+use Rattle.placement.proofs.placement.move_by.Tie as tie
+
+pub move-by-spec : {M : Type 1} → statement M
+move-by-spec =
+    tie.close
+    (tie.spec
+    (λ c. search needs)
+    (λ c. search needs)
+    (λ c κs. search needs)
+    (λ c. search needs)
+    (λ c. rw (c .before .before .offset .given .1) (c .add3 .ensures)))

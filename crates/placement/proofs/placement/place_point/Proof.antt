@@ -1,0 +1,12 @@
+-- `place_point`: shaped, then moved. Assumes nothing.
+use borrow.Author.Needs.{needs}
+use Rattle.placement.proofs.placement.place_point.Statement.{statement}
+use Rattle.placement.proofs.placement.place_point.Tie as tie
+
+pub place-point-spec : {M : Type 1} → statement M
+place-point-spec =
+    tie.close
+    (tie.spec
+    (λ c κs. search needs)
+    (λ c κs. search needs)
+    (λ c. rw (c .move-by .ensures, c .before .shape .ensures)))

@@ -1,0 +1,13 @@
+-- `scale_by`: its two cases. Assumes nothing.
+use borrow.Author.Needs.{needs}
+use Rattle.placement.proofs.placement.scale_by.Statement.{statement}
+use Rattle.placement.proofs.placement.scale_by.Tie as tie
+
+pub scale-by-spec : {M : Type 1} → statement M
+scale-by-spec =
+    tie.close
+    (tie.spec
+    (λ c. search needs)
+    (λ c. search needs)
+    (λ c. search needs)
+    (λ c. rw (c .before .before .before .before .before .before .before .scale .given .1)))
