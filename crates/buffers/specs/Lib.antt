@@ -1,0 +1,5 @@
+pub mod Mesh
+pub mod Laying
+pub mod Faces
+pub mod Steps
+pub mod Windows
