@@ -1,0 +1,12 @@
+-- `mean2`: each component over the same number. Assumes nothing.
+use borrow.Author.Needs.{needs}
+use Rattle.mesh.proofs.stored.mean2.Statement.{statement}
+use Rattle.mesh.proofs.stored.mean2.Tie as tie
+
+pub mean2-spec : {M : Type 1} → statement M
+mean2-spec =
+    tie.close
+    (tie.spec
+    (λ c. search needs)
+    (λ c κs. search needs)
+    (λ c. rw (c .before .before .nearest-u32-to-f32 .ensures)))

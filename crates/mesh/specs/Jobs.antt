@@ -1,0 +1,42 @@
+-- A job of any kind: its tests before the limit, and its faces. What the three calls answer and leave is
+-- said here once for every kind; R11 to R18 are rows of docs/TRACE.md. Definitions only.
+use Prim.Native.Nat.{ℕ}
+use mathlib.Core.List.{List, [], _∷_}
+use lib.ListN.{length}
+use Rattle.answer.specs.declared.answer.Answer.{Answer}
+use Rattle.answer.specs.Answers.{limited, named, roomed, after}
+use Rattle.buffers.specs.Mesh.{Mesh, none, measure}
+use Rattle.buffers.specs.Laying.{Buffers, layAll, layOne}
+use Rattle.buffers.specs.Steps.{Step, Lays, Refuses}
+
+-- R11, R18: 1, 2, 3, which the job's own tests give, then 4; no buffer is lent
+abbrev pub plannedOf : (Answer → Answer) → List Mesh → Answer
+plannedOf checked fs = checked (limited (measure fs))
+
+abbrev pub roomedIn : Buffers → Answer → Answer
+roomedIn B a = roomed a (length (B .vertices)) (length (B .normals)) (length (B .uvs)) (length (B .indices))
+
+-- R11: .. then 5
+abbrev pub wholeOf : (Answer → Answer) → List Mesh → Buffers → Answer
+wholeOf checked fs B = roomedIn B (plannedOf checked fs)
+
+-- R12: .. then 6, then 5, for the room of the whole plan
+abbrev pub oneOf : (Answer → Answer) → List Mesh → ℕ → Buffers → Answer
+oneOf checked fs k B = roomedIn B (named (plannedOf checked fs) k (length fs))
+
+-- R16: all faces, end to end
+abbrev pub builtOf : (Answer → Answer) → List Mesh → Buffers → Buffers
+builtOf checked fs B = after (wholeOf checked fs B) B (layAll fs none B)
+
+-- R17: the k-th alone
+abbrev pub facedOf : (Answer → Answer) → List Mesh → ℕ → Buffers → Buffers
+facedOf checked fs k B = after (oneOf checked fs k B) B (layOne fs k none B)
+
+-- X5: a run of calls on the same buffers: faces of the job, and refused calls of any kind and any job
+abbrev pub called : (Answer → Answer) → List Mesh → Step → Buffers → Buffers
+called checked fs (Lays k) B = facedOf checked fs k B
+called checked fs Refuses B = B
+
+unfoldable pub calls : (Answer → Answer) → List Mesh → List Step → Buffers → Buffers
+calls checked fs [] B = B
+calls checked fs (s ∷ ss) B = calls checked fs ss (called checked fs s B)

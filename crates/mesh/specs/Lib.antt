@@ -1,0 +1,4 @@
+pub mod Jobs
+pub mod Stored
+pub mod Merge
+pub mod CheapColumn
