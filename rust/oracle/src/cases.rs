@@ -125,7 +125,7 @@ fn hexagons() -> Vec<HexagonCase> {
 }
 
 /// Adds drawn cases up to `count`.
-fn fill<T>(mut cases: Vec<T>, count: usize, mut draw: impl FnMut() -> T) -> Vec<T> {
+pub(crate) fn fill<T>(mut cases: Vec<T>, count: usize, mut draw: impl FnMut() -> T) -> Vec<T> {
     assert!(cases.len() <= count, "the lists alone are too long");
     while cases.len() < count {
         cases.push(draw());

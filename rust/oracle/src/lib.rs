@@ -2,7 +2,11 @@
 //! layout and its maps, and what is asked of them.
 
 pub mod answers;
+pub mod arguments;
 pub mod cases;
+pub mod line;
+pub mod mesh_cases;
+pub mod mesh_record;
 pub mod numbers;
 pub mod random;
 pub mod record;

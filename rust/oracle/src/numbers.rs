@@ -1,5 +1,5 @@
-//! The numbers that cases are made of. All are finite, and none is greater in
-//! magnitude than the limit.
+//! The numbers that cases are made of. Save those of stored meshes, which may
+//! be anything, all are finite, and none is greater in magnitude than the limit.
 
 use crate::random::Random;
 use glam::{Vec2, vec2};
@@ -54,6 +54,20 @@ pub const ENDS: [f32; 26] = [
     -LIMIT,
 ];
 
+/// Numbers that only a stored mesh may have.
+pub const BEYOND: [f32; 10] = [
+    f32::MAX,
+    -f32::MAX,
+    f32::INFINITY,
+    f32::NEG_INFINITY,
+    f32::NAN,
+    1e30,
+    -1e38,
+    16_777_216.0,
+    1_000_000.06,
+    f32::from_bits(0x7f00_0000),
+];
+
 /// A number between -`size` and `size`.
 pub fn within(random: &mut Random, size: f32) -> f32 {
     (random.unit() * 2.0 - 1.0) * size
@@ -80,4 +94,13 @@ pub fn number(random: &mut Random) -> f32 {
 /// A point of two such numbers.
 pub fn point(random: &mut Random) -> Vec2 {
     vec2(number(random), number(random))
+}
+
+/// A number of a stored mesh: of any class, and of any pattern now and then.
+pub fn stored(random: &mut Random) -> f32 {
+    match random.below(8) {
+        0 => f32::from_bits(random.word()),
+        1 => random.pick(&BEYOND),
+        _ => number(random),
+    }
 }

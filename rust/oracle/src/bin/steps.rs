@@ -4,8 +4,8 @@
 use glam::{BVec2, Vec2, Vec3};
 use oracle::answers;
 use oracle::cases::{self, Cases};
+use oracle::line::bits;
 use oracle::random::Random;
-use oracle::record::bits;
 use oracle::steps::{self, Mesh, WRITTEN, Way};
 use oracle::{MeshInfo, numbers};
 use std::hint::black_box;

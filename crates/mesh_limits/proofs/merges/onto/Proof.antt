@@ -1,0 +1,25 @@
+-- `mesh_limits::merges::onto` is safe: each part that is lent is within its list. Assumes nothing.
+use native.Mathlib.Omega.{arith}
+use lib.ListN.{length-take}
+use borrow.Author.Needs.{needs}
+use Rattle.mesh_limits.proofs.merges.onto.Statement.{statement}
+use Rattle.mesh_limits.proofs.merges.onto.Tie as tie
+
+pub onto-spec : {M : Type 1} → statement M
+onto-spec =
+    tie.close
+    (tie.spec (λ c κs. search needs)
+    (λ c. search needs)
+    (λ c. simp length-take (omega arith))
+    (λ c. search needs)
+    (λ c. simp length-take (omega arith))
+    (λ c. search needs)
+    (λ c. simp length-take (omega arith))
+    (λ c. search needs)
+    (λ c. simp length-take (omega arith))
+    (λ c κs. search needs)
+    (λ c. search needs)
+    (λ c. search needs)
+    (λ c. search needs)
+    (λ c. search needs)
+    (λ c. search needs))

@@ -1,0 +1,485 @@
+// Merges of known lists, each with some faults, and what they should come to.
+use crate::answers;
+use crate::lists;
+use crate::lists::Lengths;
+use crate::lists::Window;
+use answer::answer::Answer;
+use face::triangle::Counts;
+ghost use Prim.Native.Nat.{_≤_};
+ghost use lib.ListN.{length};
+
+// The lists of a source are this one, each from another place on.
+pub(crate) const SOURCE: u32 = 4;
+
+// The source's list of indices has one that stands out.
+pub(crate) struct Merge {
+    pub(crate) source: Counts,
+    pub(crate) target: Counts,
+    pub(crate) given: Lengths,
+    pub(crate) own: Lengths,
+    pub(crate) need: Lengths,
+    pub(crate) lent: Lengths,
+    pub(crate) merged: usize,
+    pub(crate) place: usize,
+    pub(crate) value: u16,
+    pub(crate) expected: u32,
+}
+
+// A merge whose lists and buffers have exactly what is needed.
+pub(crate) fn exact(vertices: usize, indices: usize, onto: usize, behind: usize) -> Merge
+    requires { ⌜ (vertices ≤ 400000) × (indices ≤ 400000) × (onto ≤ 400000) × (behind ≤ 400000) ⌝ }
+{
+    let merged = vertices + onto;
+    let source = answers::counts(vertices, indices);
+    let target = answers::counts(onto, behind);
+    let given = lists::needs(vertices, indices);
+    let own = lists::needs(onto, behind);
+    let need = lists::needs(merged, indices + behind);
+    let expected = if merged <= 65536 { 0u32 } else { 4u32 };
+    Merge {
+        source: source,
+        target: target,
+        given: given,
+        own: own,
+        need: need,
+        lent: need,
+        merged: merged,
+        place: usize::MAX,
+        value: 0,
+        expected: expected,
+    }
+}
+
+// With a buffer from 1 to 4 one short of the need, which is the last fault to be told.
+pub(crate) fn tight(m: Merge, which: usize) -> Merge {
+    if which == 0 {
+        return m;
+    }
+    let mut out = m;
+    let lent = m.lent;
+    let need = m.need;
+    out.lent = lists::replaced(lent, lists::shortened(need, which), which);
+    if m.expected == 0 {
+        out.expected = 5;
+    }
+    out
+}
+
+// With an index that is not lawful.
+pub(crate) fn unlawful(m: Merge, place: usize, value: u16) -> Merge {
+    let mut out = m;
+    out.place = place;
+    out.value = value;
+    out.expected = 7;
+    out
+}
+
+// With a list one short of its own count: from 1 to 4 the source's, from 5 to 8 the target's.
+pub(crate) fn short(m: Merge, which: usize) -> Merge {
+    if which == 0 {
+        return m;
+    }
+    let mut out = m;
+    out.expected = 1;
+    if which <= 4 {
+        let given = m.given;
+        out.given = lists::shortened(given, which);
+        return out;
+    }
+    let lent = m.lent;
+    let own = m.own;
+    out.lent = lists::replaced(lent, lists::shortened(own, which - 4), which - 4);
+    out
+}
+
+// The index at a place of the source: below its vertices, but for the one that stands out, and past
+// the count one that no mesh may have.
+fn source_index(vertices: usize, count: usize, place: usize) -> u16 {
+    if place >= count {
+        return 65535;
+    }
+    if vertices == 0 {
+        return 0;
+    }
+    if place + 1 == count {
+        return ((vertices - 1) % 65536) as u16;
+    }
+    ((place % vertices) % 65536) as u16
+}
+
+fn fill_source(out: &mut [u16], vertices: usize, count: usize, place: usize, value: u16) {
+    let mut i = 0;
+    while i < out.len() {
+        out[i] = if i == place {
+            value
+        } else {
+            source_index(vertices, count, i)
+        };
+        i += 1;
+    }
+}
+
+fn fill_target(vertices: &mut [f32], normals: &mut [f32], uvs: &mut [f32], indices: &mut [u16]) {
+    lists::fill(1, vertices);
+    lists::fill(2, normals);
+    lists::fill(3, uvs);
+    lists::fill_indices(indices);
+}
+
+// Which places of a target's list should have changed.
+fn window(m: Merge, from: usize, to: usize, start: usize) -> Window {
+    if m.expected != 0 {
+        return lists::nothing();
+    }
+    Window {
+        from: from,
+        to: to,
+        list: SOURCE,
+        start: start,
+    }
+}
+
+fn expected_index(m: Merge, place: usize) -> u32 {
+    if m.expected != 0 {
+        return lists::index_at(place) as u32;
+    }
+    if place < m.target.indices.0 {
+        return lists::index_at(place) as u32;
+    }
+    if place < m.need.indices {
+        let at = place - m.target.indices.0;
+        let index = source_index(m.source.vertices.0, m.source.indices.0, at);
+        return index as u32 + (m.target.vertices.0 % 65536) as u32;
+    }
+    lists::index_at(place) as u32
+}
+
+fn indices_hold(m: Merge, indices: &[u16]) -> bool {
+    let mut i = 0;
+    while i < indices.len() {
+        if lists::wide(indices[i]) != expected_index(m, i) {
+            return false;
+        }
+        i += 1;
+    }
+    true
+}
+
+// Holds every place of the target's lists to what it should be.
+fn lists_judged(m: Merge, vertices: &[f32], normals: &[f32], uvs: &[f32], indices: &[u16]) -> u32 {
+    let own = m.own;
+    let need = m.need;
+    if !lists::holds(vertices, 1, window(m, own.vertices, need.vertices, 0)) {
+        return answers::VERTICES;
+    }
+    if !lists::holds(normals, 2, window(m, own.normals, need.normals, 1)) {
+        return answers::NORMALS;
+    }
+    if !lists::holds(uvs, 3, window(m, own.uvs, need.uvs, 2)) {
+        return answers::UVS;
+    }
+    if !indices_hold(m, indices) {
+        return answers::INDICES;
+    }
+    answers::RIGHT
+}
+
+// The call, with as much of each of the target's lists as the case lends.
+fn onto(
+    m: Merge,
+    from_vertices: &[f32],
+    from_normals: &[f32],
+    from_uvs: &[f32],
+    from_indices: &[u16],
+    vertices: &mut [f32],
+    normals: &mut [f32],
+    uvs: &mut [f32],
+    indices: &mut [u16],
+) -> Answer {
+    let lent = m.lent;
+    let l = lists::within(
+        lent,
+        vertices.len(),
+        normals.len(),
+        uvs.len(),
+        indices.len(),
+    );
+    let v = l.vertices;
+    let n = l.normals;
+    let u = l.uvs;
+    let i = l.indices;
+    let source = m.source;
+    let target = m.target;
+    mesh::merge::merge(
+        source,
+        from_vertices,
+        from_normals,
+        from_uvs,
+        from_indices,
+        target,
+        &mut vertices[..v],
+        &mut normals[..n],
+        &mut uvs[..u],
+        &mut indices[..i],
+    )
+}
+
+// The same, with as much of each of the source's lists.
+fn called(
+    m: Merge,
+    from: &[f32],
+    from_indices: &[u16],
+    vertices: &mut [f32],
+    normals: &mut [f32],
+    uvs: &mut [f32],
+    indices: &mut [u16],
+) -> Answer
+    requires { ⌜ 2 ≤ length (now from) ⌝ }
+{
+    let room = from.len() - 2;
+    let given = m.given;
+    let l = lists::within(given, room, room, room, from_indices.len());
+    let v = l.vertices;
+    let n = l.normals + 1;
+    let u = l.uvs + 2;
+    let i = l.indices;
+    onto(
+        m,
+        &from[..v],
+        &from[1..n],
+        &from[2..u],
+        &from_indices[..i],
+        vertices,
+        normals,
+        uvs,
+        indices,
+    )
+}
+
+// Merges, and finds what is not as it should be.
+fn found(
+    m: Merge,
+    from: &[f32],
+    from_indices: &[u16],
+    vertices: &mut [f32],
+    normals: &mut [f32],
+    uvs: &mut [f32],
+    indices: &mut [u16],
+) -> u32
+    requires { ⌜ 2 ≤ length (now from) ⌝ }
+{
+    let answer = called(m, from, from_indices, vertices, normals, uvs, indices);
+    let found = answers::judged(answer, m.expected, m.merged, m.need.indices);
+    if found != answers::RIGHT {
+        return found;
+    }
+    lists_judged(m, vertices, normals, uvs, indices)
+}
+
+// What a merge finds first that is not as it should be.
+pub(crate) fn judged(
+    m: Merge,
+    from: &[f32],
+    from_indices: &mut [u16],
+    vertices: &mut [f32],
+    normals: &mut [f32],
+    uvs: &mut [f32],
+    indices: &mut [u16],
+) -> u32 {
+    let given = m.given;
+    let lent = m.lent;
+    if from.len() < 2 {
+        return answers::TOO_LONG;
+    }
+    let room = from.len() - 2;
+    if !lists::fits(given, room, room, room, from_indices.len()) {
+        return answers::TOO_LONG;
+    }
+    if !lists::fits(
+        lent,
+        vertices.len(),
+        normals.len(),
+        uvs.len(),
+        indices.len(),
+    ) {
+        return answers::TOO_LONG;
+    }
+    fill_source(
+        from_indices,
+        m.source.vertices.0,
+        m.source.indices.0,
+        m.place,
+        m.value,
+    );
+    fill_target(vertices, normals, uvs, indices);
+    found(m, from, from_indices, vertices, normals, uvs, indices)
+}
+
+// Each set of faults that a merge of these counts can have: a short list, an unlawful index of three
+// kinds, a tight buffer.
+pub(crate) fn with_faults(m: Merge, which: usize) -> Merge {
+    let tightened = tight(m, which / 36 % 5);
+    let count = m.source.indices.0;
+    let above = (m.source.vertices.0 % 65536) as u16;
+    let kind = which / 9 % 4;
+    let last = lists::lowered(count);
+    if kind == 1 {
+        return short(unlawful(tightened, last, above), which % 9);
+    }
+    if kind == 2 {
+        return short(unlawful(tightened, last, 65535), which % 9);
+    }
+    if kind == 3 {
+        return short(unlawful(tightened, 0, above), which % 9);
+    }
+    short(tightened, which % 9)
+}
+
+// With lists and buffers longer than needed.
+fn longer(m: Merge) -> Merge {
+    let mut out = m;
+    let given = m.given;
+    let lent = m.lent;
+    out.given = lists::longer(given);
+    out.lent = lists::longer(lent);
+    out
+}
+
+// Counts that wrap when they are multiplied or added: the lists are as short as they look then.
+fn wrapping(which: usize) -> Merge {
+    let mut out = exact(1, 3, 2, 5);
+    let great = answers::WRAPS[which % 6];
+    let where_it_is = which / 6 % 4;
+    out.expected = 1;
+    if where_it_is == 0 {
+        out.source = answers::counts(great, 3);
+        return out;
+    }
+    if where_it_is == 1 {
+        out.source = answers::counts(1, great);
+        return out;
+    }
+    if where_it_is == 2 {
+        out.target = answers::counts(great, 5);
+        return out;
+    }
+    out.target = answers::counts(2, great);
+    out
+}
+
+// Lawful counts: a source's vertices and indices, a target's.
+const SHAPES: [usize; 28] = [
+    0,
+    0,
+    2,
+    5,
+    3,
+    7,
+    0,
+    0,
+    0,
+    0,
+    0,
+    0,
+    1,
+    0,
+    1,
+    0,
+    1,
+    8,
+    1,
+    1,
+    3,
+    7,
+    2,
+    5,
+    0,
+    0,
+    0,
+    4,
+];
+
+fn lawful(which: usize) -> Merge {
+    let at = which % 7 * 4;
+    let m = exact(
+        lists::at_most(SHAPES[at], 8),
+        lists::at_most(SHAPES[at + 1], 8),
+        lists::at_most(SHAPES[at + 2], 8),
+        lists::at_most(SHAPES[at + 3], 8),
+    );
+    if which < 7 {
+        return m;
+    }
+    longer(m)
+}
+
+fn small_case(which: usize) -> Merge {
+    if which < 180 {
+        return with_faults(exact(3, 7, 2, 5), which);
+    }
+    if which < 194 {
+        return lawful(which - 180);
+    }
+    if which < 218 {
+        return wrapping(which - 194);
+    }
+    // No index is below a count of 0.
+    unlawful(exact(0, 3, 2, 5), usize::MAX, 0)
+}
+
+// A part of the sets of faults.
+fn beside(m: Merge, which: usize) -> Merge {
+    with_faults(m, which % 3 * 3 + which / 3 % 2 * 9 + which / 6 % 5 * 36)
+}
+
+// With buffers for 65,536 vertices and no more.
+fn full(m: Merge) -> Merge {
+    let mut out = m;
+    out.lent = lists::needs(65536, 6);
+    out
+}
+
+fn great_case(which: usize) -> Merge {
+    match which {
+        0 => exact(1, 3, 65535, 3),
+        1 => exact(0, 0, 65536, 3),
+        2 => exact(65536, 3, 0, 0),
+        3 => exact(65535, 3, 1, 3),
+        4 => full(exact(1, 3, 65536, 3)),
+        5 => exact(65537, 3, 0, 0),
+        6 => exact(0, 0, 65537, 3),
+        7 => exact(40000, 3, 25537, 3),
+        8..=37 => beside(exact(1, 3, 65536, 3), which % 30),
+        _ => beside(exact(65535, 3, 2, 3), which % 30),
+    }
+}
+
+fn long_case(which: usize) -> Merge {
+    if which < 30 {
+        return beside(exact(2, 300000, 1, 4), which);
+    }
+    beside(exact(2, 4, 1, 300000), which % 30)
+}
+
+// Cases that fit into small lists, that need great ones, and that have more indices than any build.
+pub(crate) enum Kind {
+    Small,
+    Great,
+    Long,
+}
+
+pub(crate) fn cases(kind: Kind) -> usize {
+    match kind {
+        Kind::Small => 219,
+        Kind::Great => 68,
+        Kind::Long => 60,
+    }
+}
+
+pub(crate) fn case(kind: Kind, which: usize) -> Merge {
+    match kind {
+        Kind::Small => small_case(which),
+        Kind::Great => great_case(which),
+        Kind::Long => long_case(which),
+    }
+}

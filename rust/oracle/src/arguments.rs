@@ -1,0 +1,18 @@
+//! What both recorders are asked for.
+
+use std::{env, io};
+
+/// The count and the seed of drawn cases, or nothing where the repository's
+/// own are asked for. Says on standard error what answers.
+pub fn asked(program: &str) -> io::Result<Option<(usize, u64)>> {
+    let arguments: Vec<String> = env::args().skip(1).collect();
+    let read = match arguments.as_slice() {
+        [] => Some(None),
+        [count, seed] => count.parse().ok().zip(seed.parse().ok()).map(Some),
+        _ => None,
+    };
+    let usage = || io::Error::other(format!("{program} [count seed]"));
+    let asked = read.ok_or_else(usage)?;
+    eprintln!("made with {}", crate::MADE_WITH);
+    Ok(asked)
+}
