@@ -1,0 +1,85 @@
+-- A plane, a job of one face (plane_builder.rs); B5 to B22 are rows of docs/TRACE.md. Definitions only.
+use Prim.Native.Nat.{ℕ}
+use mathlib.Core.Bool.{Bool, _&&_}
+use mathlib.Core.List.{List, [], _∷_, map}
+use lib.ListN.{length}
+use lib.Ieee.{Float}
+use Rattle.face.specs.declared.vec.Vec2.{Vec2}
+use Rattle.face.specs.declared.inset.InsetHexagon.{InsetHexagon}
+use Rattle.face.specs.declared.uv_mapping.UvOptions.{UvOptions}
+use Rattle.face.specs.Lists.{each}
+use Rattle.face.specs.Vec.{flat}
+use Rattle.face.specs.Texture.{altered}
+use Rattle.face.specs.Face.{hexagonOf}
+use Rattle.face.specs.Inset.{insetHexagonOf}
+use Rattle.answer.specs.declared.answer.Refusal.the-variants.{Shape, Range}
+use Rattle.answer.specs.declared.answer.Answer.{Answer}
+use Rattle.answer.specs.Answers.{given}
+use Rattle.answer.specs.Checks.{inRange2, allInRange, exactly, namesOption}
+use Rattle.placement.specs.declared.options.FaceOptions.{FaceOptions}
+use Rattle.placement.specs.declared.placement.Choice3.the-variants as choice
+use Rattle.placement.specs.declared.placement.Placement.{Placement}
+use Rattle.placement.specs.Options.{entryCount, isTable, optionAt}
+use Rattle.placement.specs.Placing.{moved, placedHexagon, placementInRange}
+use Rattle.buffers.specs.Mesh.{Mesh}
+use Rattle.buffers.specs.Laying.{Buffers}
+use Rattle.buffers.specs.Faces.{hexagonMesh}
+use Rattle.mesh.specs.CheapColumn.{cornerFrom}
+use Rattle.mesh.specs.Jobs.{plannedOf, wholeOf, oneOf, builtOf, facedOf}
+use Rattle.plane_builder.specs.declared.Plane.{Plane}
+
+-- B7, B19: the position, at height +0, is always added; a supplied offset joins it first
+abbrev pub settled : Placement → Vec2 → Placement
+settled s at = record { scale = s .scale; turn = s .turn; offset = choice.With (moved (s .offset) (flat at)) }
+
+-- B5: uvs altered, those of the outer and of the inner points
+abbrev pub alteredHexagon : UvOptions → InsetHexagon → InsetHexagon
+alteredHexagon o h = record { positions = h .positions; normal = h .normal; uvs = map (altered o) (h .uvs) }
+
+abbrev pub cornersOf : List Float → List Vec2
+cornersOf l = each (cornerFrom l) 6
+
+-- the hexagon with its inset, placed, and its uvs altered last
+abbrev pub hexagonBy : Plane → List Float → FaceOptions → InsetHexagon
+hexagonBy job l o =
+    alteredHexagon (o .uv) (placedHexagon (settled (job .placement) (job .position)) (insetHexagonOf (o .inset) (hexagonOf (cornersOf l))))
+
+abbrev pub optionsOf : Plane → List Float → List ℕ → FaceOptions
+optionsOf job ns ms = optionAt ns ms (job .option)
+
+abbrev pub planeMesh : Plane → List Float → List Float → List ℕ → Mesh
+planeMesh job l ns ms = hexagonMesh (optionsOf job ns ms .inset) (hexagonBy job l (optionsOf job ns ms))
+
+-- R15
+abbrev pub planeFaces : Plane → List Float → List Float → List ℕ → List Mesh
+planeFaces job l ns ms = planeMesh job l ns ms ∷ []
+
+-- R1: six corners, a table of options, an option that names one
+abbrev pub shapeOf : Plane → List Float → List Float → List ℕ → Bool
+shapeOf job l ns ms = exactly (length l) 6 2 && (isTable ns ms && namesOption (job .option) (entryCount ms))
+
+-- R2: every number that is lent or supplied
+abbrev pub placeOf : Plane → Bool
+placeOf job = inRange2 (job .position) && placementInRange (job .placement)
+
+abbrev pub rangeOf : Plane → List Float → List Float → Bool
+rangeOf job l ns = allInRange l && (allInRange ns && (placeOf job))
+
+-- R11: 1, then 2; it has no neighbour, so no 3
+abbrev pub checked : Plane → List Float → List Float → List ℕ → Answer → Answer
+checked job l ns ms rest = given (shapeOf job l ns ms) Shape (given (rangeOf job l ns) Range rest)
+
+abbrev pub planned : Plane → List Float → List Float → List ℕ → Answer
+planned job l ns ms = plannedOf (checked job l ns ms) (planeFaces job l ns ms)
+
+abbrev pub wholeAnswer : Plane → List Float → List Float → List ℕ → Buffers → Answer
+wholeAnswer job l ns ms = wholeOf (checked job l ns ms) (planeFaces job l ns ms)
+
+abbrev pub faceAnswer : Plane → List Float → List Float → List ℕ → ℕ → Buffers → Answer
+faceAnswer job l ns ms = oneOf (checked job l ns ms) (planeFaces job l ns ms)
+
+abbrev pub built : Plane → List Float → List Float → List ℕ → Buffers → Buffers
+built job l ns ms = builtOf (checked job l ns ms) (planeFaces job l ns ms)
+
+abbrev pub faced : Plane → List Float → List Float → List ℕ → ℕ → Buffers → Buffers
+faced job l ns ms = facedOf (checked job l ns ms) (planeFaces job l ns ms)

@@ -1,0 +1,260 @@
+// A plane, after plane_builder.rs of hexx: one hexagon with its inset, scaled, turned and moved, and
+// its uvs altered last. A job of one face, whose number is 0.
+ghost use mathlib.Core.Path.{_≡_};
+ghost use mathlib.Core.Bool.{true};
+ghost use lib.ListN.{length};
+ghost use Rattle.buffers.specs.Mesh.{none, measure};
+ghost use Rattle.buffers.specs.Laying.{four, fits, layAll};
+ghost use Rattle.plane_builder.specs.Plane.{settled, alteredHexagon, cornersOf, hexagonBy, planeFaces, shapeOf, placeOf, rangeOf, planned, wholeAnswer, faceAnswer, built, faced};
+use answer::answer::Answer;
+use answer::answer::Refusal;
+use face::inset::InsetHexagon;
+use face::triangle::Counts;
+use face::triangle::IndexPlace;
+use face::triangle::VertexNumber;
+use face::uv_mapping::UvOptions;
+use face::vec::Vec2;
+use face::vec::Vec3;
+use placement::options::FaceOptions;
+use placement::placement::Choice3;
+use placement::placement::Placement;
+use placement::placement::Turn;
+
+// The six corners come in a list of twelve numbers, those of a hexagon about zero; the position says
+// where it stands.
+pub struct Plane {
+    pub position: Vec2,
+    pub option: u8,
+    pub placement: Placement,
+}
+
+fn corners_of(corners: &[f32]) -> [Vec2; 6]
+    requires { ⌜ length (now corners) ≡ 12 ⌝ }
+    ensures { λ r. ⌜ r ≡ cornersOf (now (corners .entry)) ⌝ }
+{
+    [
+        Vec2 {
+            x: corners[0],
+            y: corners[1],
+        },
+        Vec2 {
+            x: corners[2],
+            y: corners[3],
+        },
+        Vec2 {
+            x: corners[4],
+            y: corners[5],
+        },
+        Vec2 {
+            x: corners[6],
+            y: corners[7],
+        },
+        Vec2 {
+            x: corners[8],
+            y: corners[9],
+        },
+        Vec2 {
+            x: corners[10],
+            y: corners[11],
+        },
+    ]
+}
+
+// The placement of a whole mesh: the position is always added, so -0 there becomes +0.
+fn settle(s: Placement, at: Vec2) -> Placement
+    ensures { λ r. ⌜ r ≡ settled s at ⌝ }
+{
+    let scale = s.scale;
+    let turn = s.turn;
+    let offset = s.offset;
+    let joining = Placement {
+        scale: Choice3::Absent,
+        turn: Turn::Absent,
+        offset: offset,
+    };
+    let spot = Vec3 {
+        x: at.x,
+        y: 0.0,
+        z: at.y,
+    };
+    let joined = placement::placement::place_point(joining, spot);
+    Placement {
+        scale: scale,
+        turn: turn,
+        offset: Choice3::With(joined),
+    }
+}
+
+fn alter(o: UvOptions, h: InsetHexagon) -> InsetHexagon
+    ensures { λ r. ⌜ r ≡ alteredHexagon o h ⌝ }
+{
+    let positions = h.positions;
+    let normal = h.normal;
+    let plain = h.uvs;
+    let uvs = face::uv_mapping::alter_twelve(o, plain);
+    InsetHexagon {
+        positions: positions,
+        normal: normal,
+        uvs: uvs,
+    }
+}
+
+fn hexagon_by(job: Plane, corners: &[f32], o: FaceOptions) -> InsetHexagon
+    requires { ⌜ length (now corners) ≡ 12 ⌝ }
+    ensures { λ r. ⌜ r ≡ hexagonBy job (now (corners .entry)) o ⌝ }
+{
+    let s = job.placement;
+    let inset = o.inset;
+    let uv = o.uv;
+    let plain = face::face::new_hexagon(corners_of(corners));
+    let whole = face::inset::inset_hexagon(inset, plain);
+    let placed = placement::placement::place_hexagon(settle(s, job.position), whole);
+    alter(uv, placed)
+}
+
+fn is_shape(job: Plane, corners: &[f32], numbers: &[f32], marks: &[u8]) -> bool
+    ensures { λ r. ⌜ r ≡ shapeOf job (now (corners .entry)) (now (numbers .entry)) (now (marks .entry)) ⌝ }
+{
+    if answer::check::is_exactly(corners.len(), 6, 2) {
+        if placement::options::is_table(numbers, marks) {
+            return answer::check::names_option(job.option, placement::options::entries(marks));
+        }
+    }
+    false
+}
+
+fn is_place(job: Plane) -> bool
+    ensures { λ r. ⌜ r ≡ placeOf job ⌝ }
+{
+    let s = job.placement;
+    if answer::check::in_range2(job.position) {
+        return placement::placement::placement_in_range(s);
+    }
+    false
+}
+
+fn is_in_range(job: Plane, corners: &[f32], numbers: &[f32]) -> bool
+    ensures { λ r. ⌜ r ≡ rangeOf job (now (corners .entry)) (now (numbers .entry)) ⌝ }
+{
+    if answer::check::all_in_range(corners) {
+        if answer::check::all_in_range(numbers) {
+            return is_place(job);
+        }
+    }
+    false
+}
+
+fn put(
+    job: Plane,
+    corners: &[f32],
+    numbers: &[f32],
+    marks: &[u8],
+    vertices: &mut [f32],
+    normals: &mut [f32],
+    uvs: &mut [f32],
+    indices: &mut [u16],
+)
+    requires { ⌜ (length (now corners) ≡ 12) × (fits none (measure (planeFaces job (now corners) (now numbers) (now marks))) (four (now vertices) (now normals) (now uvs) (now indices)) ≡ true) ⌝ }
+    ensures { λ _. ⌜ four (now (vertices .exit)) (now (normals .exit)) (now (uvs .exit)) (now (indices .exit)) ≡ layAll (planeFaces job (now (corners .entry)) (now (numbers .entry)) (now (marks .entry))) none (four (now (vertices .entry)) (now (normals .entry)) (now (uvs .entry)) (now (indices .entry))) ⌝ }
+{
+    let o = placement::options::option_at(numbers, marks, job.option);
+    let inset = o.inset;
+    let h = hexagon_by(job, corners, o);
+    let start = Counts {
+        vertices: VertexNumber(0),
+        indices: IndexPlace(0),
+    };
+    buffers::laying::lay_hexagon(inset, h, start, vertices, normals, uvs, indices);
+}
+
+// The counts of the job, or why it is refused.
+pub fn plan(job: Plane, corners: &[f32], numbers: &[f32], marks: &[u8]) -> Answer
+    ensures { λ r. ⌜ r ≡ planned job (now (corners .entry)) (now (numbers .entry)) (now (marks .entry)) ⌝ }
+{
+    if is_shape(job, corners, numbers, marks) {
+        if is_in_range(job, corners, numbers) {
+            let o = placement::options::option_at(numbers, marks, job.option);
+            let inset = o.inset;
+            return answer::answer::limit(face::triangle::hexagon_counts(inset));
+        }
+        return Answer::Refused(Refusal::Range);
+    }
+    Answer::Refused(Refusal::Shape)
+}
+
+pub fn build(
+    job: Plane,
+    corners: &[f32],
+    numbers: &[f32],
+    marks: &[u8],
+    vertices: &mut [f32],
+    normals: &mut [f32],
+    uvs: &mut [f32],
+    indices: &mut [u16],
+) -> Answer
+    ensures answer { λ r. ⌜ r ≡ wholeAnswer job (now (corners .entry)) (now (numbers .entry)) (now (marks .entry)) (four (now (vertices .entry)) (now (normals .entry)) (now (uvs .entry)) (now (indices .entry))) ⌝ }
+    ensures buffers { λ _. ⌜ four (now (vertices .exit)) (now (normals .exit)) (now (uvs .exit)) (now (indices .exit)) ≡ built job (now (corners .entry)) (now (numbers .entry)) (now (marks .entry)) (four (now (vertices .entry)) (now (normals .entry)) (now (uvs .entry)) (now (indices .entry))) ⌝ }
+{
+    let answer = answer::answer::room(
+        plan(job, corners, numbers, marks),
+        vertices.len(),
+        normals.len(),
+        uvs.len(),
+        indices.len(),
+    );
+    match answer {
+        Answer::Refused(why) => Answer::Refused(why),
+        Answer::Done(counts) => {
+            put(
+                job,
+                corners,
+                numbers,
+                marks,
+                vertices,
+                normals,
+                uvs,
+                indices,
+            );
+            Answer::Done(counts)
+        }
+    }
+}
+
+pub fn face(
+    job: Plane,
+    corners: &[f32],
+    numbers: &[f32],
+    marks: &[u8],
+    number: usize,
+    vertices: &mut [f32],
+    normals: &mut [f32],
+    uvs: &mut [f32],
+    indices: &mut [u16],
+) -> Answer
+    ensures answer { λ r. ⌜ r ≡ faceAnswer job (now (corners .entry)) (now (numbers .entry)) (now (marks .entry)) number (four (now (vertices .entry)) (now (normals .entry)) (now (uvs .entry)) (now (indices .entry))) ⌝ }
+    ensures buffers { λ _. ⌜ four (now (vertices .exit)) (now (normals .exit)) (now (uvs .exit)) (now (indices .exit)) ≡ faced job (now (corners .entry)) (now (numbers .entry)) (now (marks .entry)) number (four (now (vertices .entry)) (now (normals .entry)) (now (uvs .entry)) (now (indices .entry))) ⌝ }
+{
+    let answer = answer::answer::room(
+        answer::answer::name(plan(job, corners, numbers, marks), number, 1),
+        vertices.len(),
+        normals.len(),
+        uvs.len(),
+        indices.len(),
+    );
+    match answer {
+        Answer::Refused(why) => Answer::Refused(why),
+        Answer::Done(counts) => {
+            put(
+                job,
+                corners,
+                numbers,
+                marks,
+                vertices,
+                normals,
+                uvs,
+                indices,
+            );
+            Answer::Done(counts)
+        }
+    }
+}
