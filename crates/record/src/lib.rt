@@ -10,14 +10,11 @@ ghost use Prim.Native.Nat.{_≤_, _<_, _^_};
 ghost use lib.ListN.{length};
 ghost use lib.Ieee.{binary32, ofBits, toBits};
 
-// The number of a pattern. The language makes one NaN, so every NaN's pattern gives that one.
+// The number of a pattern.
 pub fn float(bits: u32) -> f32
     ensures { λ r. ⌜ r ≡ ofBits binary32 bits ⌝ }
 {
-    if bits % 0x8000_0000 > 0x7f80_0000 {
-        return 0.0 / 0.0;
-    }
-    f32::from_bits(bits)
+    patterns::float(bits)
 }
 
 // The pattern of a number, with every NaN as a record has it, 7fc00000.

@@ -9,8 +9,8 @@ use lib.Ieee.{Float, nan, inf, fin, binary32, div, ofBits, isNan}
 use lib.Ieee.Bits.{nanBits-above, nanBits-is}
 use borrow.Author.Needs.{needs}
 use borrow.Author.Tests.{lt-ltb}
-use Rattle.record.proofs.float.Statement.{statement}
-use Rattle.record.proofs.float.Tie as tie
+use Rattle.patterns.proofs.float.Statement.{statement}
+use Rattle.patterns.proofs.float.Tie as tie
 
 only : (x : Float) → isNan x ≡ true → nan ≡ x
 unfolding isNan
