@@ -1,6 +1,7 @@
 // Texture options, after uv_mapping.rs of hexx: flip, scale, offset, then the rectangle.
 ghost use mathlib.Core.Path.{_≡_};
 ghost use mathlib.Core.List.{map};
+ghost use Rattle.arith.specs.Fused.{fma};
 ghost use Rattle.face.specs.Texture.{plain, component, altered, unitOr, wrapped};
 use crate::vec::Vec2;
 
@@ -30,11 +31,23 @@ pub fn default_options() -> UvOptions
     }
 }
 
+// In a rectangle of width 1, as the default's is, the product needs no rounding and the sum has the one.
+fn remap(width: f32, u: f32, min: f32) -> f32
+    ensures { λ r. ⌜ r ≡ fma width u min ⌝ }
+{
+    if width == width {
+        if f32::to_bits(width) == 0x3f80_0000 {
+            return u + min;
+        }
+    }
+    arith::fused(width, u, min)
+}
+
 fn alter_component(flip: bool, scale: f32, offset: f32, min: f32, max: f32, u: f32) -> f32
     ensures { λ r. ⌜ r ≡ component flip scale offset min max u ⌝ }
 {
     let f = if flip { 1.0 - u } else { u };
-    arith::fused(max - min, f * scale + offset, min)
+    remap(max - min, f * scale + offset, min)
 }
 
 pub fn alter_uv(o: UvOptions, uv: Vec2) -> Vec2

@@ -9,4 +9,4 @@ alter-component-spec =
     tie.close
     (tie.spec
     (λ c κs. search needs)
-    (λ c. rw (c .fused .ensures) (⊎-elim (λ w. rw (w .1, w .0 .taken)) (λ w. rw (w .1, w .0 .left)) (c .before .if1 .came))))
+    (λ c. rw (c .remap .ensures) (⊎-elim (λ w. rw (w .1, w .0 .taken)) (λ w. rw (w .1, w .0 .left)) (c .before .if1 .came))))
