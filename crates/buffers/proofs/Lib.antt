@@ -4,4 +4,5 @@ pub mod Rooms
 pub mod Windows
 pub mod Joined
 pub mod Faces
+pub mod Each
 pub mod Determined

@@ -76,3 +76,8 @@ fits at size B = reaches (also at size) (length (B .vertices)) (length (B .norma
 -- a mesh laid where it fits, and nothing written where it does not
 abbrev pub laidIfFits : Mesh → Counts → Buffers → Buffers
 laidIfFits m at B = pick (fits at (sizeOf m) B) (lay m at B) B
+
+-- faces end to end from a place on, each where it fits
+unfoldable pub layEach : List Mesh → Counts → Buffers → Buffers
+layEach [] at B = B
+layEach (f ∷ fs) at B = layEach fs (also at (sizeOf f)) (laidIfFits f at B)

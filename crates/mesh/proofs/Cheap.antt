@@ -18,6 +18,7 @@ use Rattle.answer.specs.declared.answer.Refusal.the-variants.{Shape, Range}
 use Rattle.answer.specs.declared.answer.Answer.{Answer}
 use Rattle.answer.specs.declared.answer.Answer.the-variants.{Done, Refused}
 use Rattle.answer.specs.Answers.{given, limited, named}
+use Rattle.answer.specs.Checks.{exactly}
 use Rattle.answer.proofs.Laws.{Roomy, every-at, given-done, done-limited, named-done, roomed-done}
 use Rattle.buffers.specs.Mesh.{Vertex, Mesh, none, measure}
 use Rattle.buffers.specs.Laying.{Buffers, four, three, two, corners, spread, laid, lay, layAll, layOne}
@@ -27,7 +28,7 @@ use Rattle.buffers.proofs.Order.{same-four}
 use Rattle.buffers.proofs.Rooms.{both}
 use Rattle.buffers.proofs.Faces.{FewIndices}
 use Rattle.mesh.specs.declared.cheap_column.CheapColumn.{CheapColumn}
-use Rattle.mesh.specs.CheapColumn.{cornerFrom, outward, vertexOver, cheapTriangles, cheapMesh, cheapFaces, rangeOf, planned, wholeAnswer, faceAnswer}
+use Rattle.mesh.specs.CheapColumn.{cornerFrom, outward, vertexOver, cheapTriangles, cheapMesh, cheapFaces, rangeOf, checked, planned, wholeAnswer, faceAnswer}
 
 -- ---- the plan
 module _ (job : CheapColumn) (l : List Float) where
@@ -104,6 +105,10 @@ module _ (job : CheapColumn) (l : List Float) (B : Buffers) where
       let r = roomed-done (named (planned job l) k 1) d _ _ _ _ e in
       let z : k ≡ 0 = omega (arith, named-done (planned job l) d k 1 (r .0) .1) in
       sym (one-face job l B) ∙ ap (λ (j : ℕ). layOne (cheapFaces job l) j none B) (sym z)
+
+-- a column's own tests change no answer
+pub passes : (job : CheapColumn) (l : List Float) (a : Answer) (d : Counts) → checked job l a ≡ Done d → a ≡ Done d
+passes job l a d e = given-done (rangeOf job l) Range a (given-done (exactly (length l) 6 2) Shape (given (rangeOf job l) Range a) e .1) .1
 
 -- ---- its triangles name its own twelve vertices, by a test of the whole table
 pub column-own : (job : CheapColumn) (l : List Float) → Own (cheapMesh job l)

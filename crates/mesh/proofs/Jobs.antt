@@ -11,14 +11,15 @@ use Rattle.answer.specs.declared.answer.Refusal.{Refusal}
 use Rattle.answer.specs.declared.answer.Refusal.the-variants.{NoFace}
 use Rattle.answer.specs.declared.answer.Answer.{Answer}
 use Rattle.answer.specs.declared.answer.Answer.the-variants.{Done, Refused}
-use Rattle.answer.specs.Answers.{given, named, roomed, roomFor, after}
-use Rattle.answer.proofs.Laws.{Roomy, roomed-done, room-enough, after-done, after-refused}
-use Rattle.buffers.specs.Mesh.{Mesh, none, startOf}
-use Rattle.buffers.specs.Laying.{Buffers, layAll, layOne}
+use Rattle.answer.specs.Answers.{given, limited, named, roomed, roomFor, after}
+use Rattle.answer.proofs.Laws.{Roomy, done-limited, named-done, roomed-done, room-enough, after-done, after-refused}
+use Rattle.buffers.specs.Mesh.{Mesh, none, measure, startOf}
+use Rattle.buffers.specs.Laying.{Buffers, fits, reaches, layAll, layOne}
 use Rattle.buffers.specs.Steps.{Step, Lays, Refuses, stepped, run, Named}
 use Rattle.buffers.specs.Windows.{AlikeOutside, SameLengths}
 use Rattle.buffers.proofs.Order.{any-order, one-lengths, lengths-same, lengths-then}
-use Rattle.buffers.proofs.Windows.{one-outside, one-past-end}
+use Rattle.buffers.proofs.Rooms.{room-so}
+use Rattle.buffers.proofs.Windows.{none-also, one-outside, one-past-end}
 use Rattle.mesh.specs.Jobs.{plannedOf, roomedIn, wholeOf, oneOf, builtOf, facedOf, called, calls}
 
 -- the buffers have room for counts
@@ -94,3 +95,23 @@ no-places checked fs k B h = go (oneOf checked fs k B)
     go : (a : Answer) → after a B (layOne fs k none B) ≡ B
     go (Done c) = one-past-end fs k none B h
     go (Refused e) = refl
+
+-- ---- a call that is done has the room of the whole plan; a job's own tests pass on what they are given
+module _ (checked : Answer → Answer) (fs : List Mesh) (passes : (a : Answer) (d : Counts) → checked a ≡ Done d → a ≡ Done d) where
+  has-room : (B : Buffers) (d : Counts) → plannedOf checked fs ≡ Done d → RoomIn d B → fits none (measure fs) B ≡ true
+  has-room B d e r =
+      let c : Counts = measure fs in
+      let k = done-limited c d (passes (limited c) d e) in
+      let s = rw (← k .1) at r in
+      ap (λ (x : Counts). reaches x (length (B .vertices)) (length (B .normals)) (length (B .uvs)) (length (B .indices))) (none-also c)
+      ∙ room-so c _ _ _ _ record { limit = k .0; vertices = s .vertices; normals = s .normals; uvs = s .uvs; indices = s .indices }
+
+  pub whole-room : (B : Buffers) (d : Counts) → wholeOf checked fs B ≡ Done d → fits none (measure fs) B ≡ true
+  whole-room B d e = let r = roomed-done (plannedOf checked fs) d _ _ _ _ e in has-room B d (r .0) (r .1)
+
+  -- and so has a face call, whose number is a face's
+  pub face-room : (k : ℕ) (B : Buffers) (d : Counts) → oneOf checked fs k B ≡ Done d → (fits none (measure fs) B ≡ true) × (k < length fs)
+  face-room k B d e =
+      let r = roomed-done (named (plannedOf checked fs) k (length fs)) d _ _ _ _ e in
+      let n = named-done (plannedOf checked fs) d k (length fs) (r .0) in
+      (has-room B d (n .0) (r .1), n .1)
