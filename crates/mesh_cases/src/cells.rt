@@ -1,12 +1,13 @@
 // The cells of a line and the lists of its meshes: what goes in is taken from the line, and what
 // comes out is put where the record has it. Lists are longer than their counts, and what stands past
 // those is one number, which no call may change.
+use known::answers;
 ghost use Prim.Native.Nat.{_+_, _*_, _≤_};
 
-// The cells of the longest line with its marks, and the most of them that are answers.
-pub(crate) const CELLS: usize = 172;
+// The cells of the longest line with its mark, and the most of them that are answers.
+pub(crate) const CELLS: usize = 168;
 
-pub(crate) const OUTPUTS: usize = 149;
+pub(crate) const OUTPUTS: usize = 145;
 
 // The room of a list of floats and of a list of indices.
 pub(crate) const FLOATS: usize = 40;
@@ -37,13 +38,13 @@ pub(crate) fn narrow(n: usize) -> u32 {
 }
 
 pub(crate) fn take(words: &[u32; CELLS], at: usize) -> f32
-    requires { ⌜ at + 1 ≤ 172 ⌝ }
+    requires { ⌜ at + 1 ≤ 168 ⌝ }
 {
     record::float(words[at])
 }
 
 pub(crate) fn take_list(words: &[u32; CELLS], at: usize, n: usize, out: &mut [f32; FLOATS])
-    requires { ⌜ (n ≤ 40) × (at + n ≤ 172) ⌝ }
+    requires { ⌜ (n ≤ 40) × (at + n ≤ 168) ⌝ }
 {
     for i in 0usize..n {
         out[i] = record::float(words[at + i]);
@@ -51,7 +52,7 @@ pub(crate) fn take_list(words: &[u32; CELLS], at: usize, n: usize, out: &mut [f3
 }
 
 pub(crate) fn take_indices(words: &[u32; CELLS], at: usize, n: usize, out: &mut [u16; INDICES])
-    requires { ⌜ (n ≤ 52) × (at + n ≤ 172) ⌝ }
+    requires { ⌜ (n ≤ 52) × (at + n ≤ 168) ⌝ }
 {
     for i in 0usize..n {
         out[i] = (words[at + i] % 65536) as u16;
@@ -59,7 +60,7 @@ pub(crate) fn take_indices(words: &[u32; CELLS], at: usize, n: usize, out: &mut 
 }
 
 pub(crate) fn put_list(cells: &mut [u32; OUTPUTS], at: usize, n: usize, list: &[f32; FLOATS])
-    requires { ⌜ (n ≤ 40) × (at + n ≤ 149) ⌝ }
+    requires { ⌜ (n ≤ 40) × (at + n ≤ 145) ⌝ }
 {
     for i in 0usize..n {
         cells[at + i] = record::pattern(list[i]);
@@ -71,7 +72,7 @@ fn wide(index: u16) -> u32 {
 }
 
 pub(crate) fn put_indices(cells: &mut [u32; OUTPUTS], at: usize, n: usize, list: &[u16; INDICES])
-    requires { ⌜ (n ≤ 52) × (at + n ≤ 149) ⌝ }
+    requires { ⌜ (n ≤ 52) × (at + n ≤ 145) ⌝ }
 {
     for i in 0usize..n {
         cells[at + i] = wide(list[i]);
@@ -113,7 +114,7 @@ pub(crate) fn take_mesh(
     uvs: &mut [f32; FLOATS],
     indices: &mut [u16; INDICES],
 )
-    requires { ⌜ (v ≤ room) × (room ≤ 12) × (n ≤ 8) × (at + 8 * room ≤ 162) ⌝ }
+    requires { ⌜ (v ≤ room) × (room ≤ 12) × (n ≤ 8) × (at + 8 * room ≤ 158) ⌝ }
 {
     take_list(words, at + 2, 3 * v, vertices);
     take_list(words, at + 2 + 3 * room, 3 * v, normals);
@@ -133,7 +134,7 @@ pub(crate) fn put_mesh(
     uvs: &[f32; FLOATS],
     indices: &[u16; INDICES],
 )
-    requires { ⌜ (v ≤ room) × (room ≤ 12) × (n ≤ 48) × (at + 8 * room + n ≤ 149) ⌝ }
+    requires { ⌜ (v ≤ room) × (room ≤ 12) × (n ≤ 48) × (at + 8 * room + n ≤ 145) ⌝ }
 {
     put_list(cells, at, 3 * v, vertices);
     put_list(cells, at + 3 * room, 3 * v, normals);
@@ -141,7 +142,7 @@ pub(crate) fn put_mesh(
     put_indices(cells, at + 8 * room, n, indices);
 }
 
-// Which of the four lists has changed past the counts: 0 for none.
+// Which of the four lists has changed past the counts.
 pub(crate) fn changed(
     v: usize,
     n: usize,
@@ -153,16 +154,16 @@ pub(crate) fn changed(
     requires { ⌜ v ≤ 12 ⌝ }
 {
     if !list_kept(vertices, 3 * v) {
-        return 1;
+        return answers::VERTICES;
     }
     if !list_kept(normals, 3 * v) {
-        return 2;
+        return answers::NORMALS;
     }
     if !list_kept(uvs, 2 * v) {
-        return 3;
+        return answers::UVS;
     }
     if !indices_kept(indices, n) {
-        return 4;
+        return answers::INDICES;
     }
-    0
+    answers::RIGHT
 }

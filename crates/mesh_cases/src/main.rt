@@ -8,14 +8,13 @@ use cells::CELLS;
 use cells::OUTPUTS;
 use record::tally;
 use record::tally::Tally;
-use replay::MARKS;
 use replay::Part;
 ghost use Prim.Native.Nat.{_+_, _≤_};
 
 // The first of some cells at which what was made and what the record has differ, and their number
 // where all are the same.
 fn first_difference(made: &[u32; OUTPUTS], words: &[u32; CELLS], from: usize, n: usize) -> usize
-    requires { ⌜ (n ≤ 149) × (from + n ≤ 172) ⌝ }
+    requires { ⌜ (n ≤ 145) × (from + n ≤ 168) ⌝ }
     ensures { λ r. ⌜ r ≤ n ⌝ }
 {
     let mut i = 0;
@@ -37,7 +36,7 @@ fn with_cells(
     from: usize,
     n: usize,
 ) -> Tally
-    requires { ⌜ (n ≤ 149) × (from + n ≤ 172) ⌝ }
+    requires { ⌜ (n ≤ 145) × (from + n ≤ 168) ⌝ }
 {
     let i = first_difference(made, words, from, n);
     if i < n {
@@ -53,9 +52,8 @@ fn with_line(t: Tally, part: Part, number: u32) -> Tally {
     let n = outputs.n;
     let end = from + n;
     if record::line(&mut words[..end]) {
-        replay::expect_marks(part, &mut words, end);
         let made = replay::answers(part, &words);
-        with_cells(t, number, &made, &words, from, n + MARKS)
+        with_cells(t, number, &made, &words, from, n + 1)
     } else {
         tally::no_record()
     }
@@ -71,63 +69,21 @@ fn lines(part: Part, n: u32) -> Tally {
     out
 }
 
-fn compared(part: Part, name: &[u8; 9]) -> Tally {
+// Compares a part, tells what it found, and answers 1; or 0 where the part does not read.
+fn compared(part: Part, name: &[u8; 9]) -> u32
+    ensures { λ r. ⌜ r ≤ 1 ⌝ }
+{
     let n = record::count(name);
     if n == 0 {
-        return tally::no_record();
+        return 0;
     }
-    lines(part, n)
-}
-
-// The tallies of the record's parts.
-struct Parts {
-    scales: Tally,
-    offsets: Tally,
-    uvscales: Tally,
-    means: Tally,
-    uvmeans: Tally,
-    merges: Tally,
-    columns: Tally,
-}
-
-// Whether each of the parts read.
-fn all_read(p: Parts) -> bool {
-    if !p.scales.reads {
-        return false;
+    let t = lines(part, n);
+    if !t.reads {
+        return 0;
     }
-    if !p.offsets.reads {
-        return false;
-    }
-    if !p.uvscales.reads {
-        return false;
-    }
-    if !p.means.reads {
-        return false;
-    }
-    if !p.uvmeans.reads {
-        return false;
-    }
-    if !p.merges.reads {
-        return false;
-    }
-    p.columns.reads
-}
-
-fn report_parts(p: Parts) {
-    report::print_first(b"scale ", p.scales);
-    report::print_first(b"offset ", p.offsets);
-    report::print_first(b"uvscale ", p.uvscales);
-    report::print_first(b"mean ", p.means);
-    report::print_first(b"uvmean ", p.uvmeans);
-    report::print_first(b"merge ", p.merges);
-    report::print_first(b"column ", p.columns);
-    report::print_counts(b"scales ", p.scales);
-    report::print_counts(b"offsets ", p.offsets);
-    report::print_counts(b"uvscales ", p.uvscales);
-    report::print_counts(b"means ", p.means);
-    report::print_counts(b"uvmeans ", p.uvmeans);
-    report::print_counts(b"merges ", p.merges);
-    report::print_counts(b"columns ", p.columns);
+    report::print_first(name, t);
+    report::print_counts(name, t);
+    1
 }
 
 fn main() {
@@ -138,18 +94,8 @@ fn main() {
     let uvmeans = compared(Part::UvMeans, b"uvmeans  ");
     let merges = compared(Part::Merges, b"merges   ");
     let columns = compared(Part::Columns, b"columns  ");
-    let parts = Parts {
-        scales: scales,
-        offsets: offsets,
-        uvscales: uvscales,
-        means: means,
-        uvmeans: uvmeans,
-        merges: merges,
-        columns: columns,
-    };
-    if record::ended(all_read(parts)) {
-        report_parts(parts);
-    } else {
+    let read = scales + offsets + uvscales + means + uvmeans + merges + columns;
+    if !record::ended(read == 7) {
         report::refuse();
     }
 }

@@ -1,6 +1,5 @@
-// What `mesh` makes of a line of each part, as the cells that the record should have for it and five
-// marks: the answer's number, its two counts, which list has changed past the counts, and which other
-// call disagrees.
+// What `mesh` makes of a line of each part, as the cells that the record should have for it and a mark:
+// 0, or what is not as it should be of the answer, of the places past its counts, or of another call.
 use crate::cells;
 use crate::cells::CELLS;
 use crate::cells::FLOATS;
@@ -10,10 +9,9 @@ use crate::cells::KEPT_INDEX;
 use crate::cells::OUTPUTS;
 use answer::answer::Answer;
 use face::triangle::Counts;
-use face::triangle::IndexPlace;
-use face::triangle::VertexNumber;
 use face::vec::Vec2;
 use face::vec::Vec3;
+use known::answers;
 use mesh::cheap_column::CheapColumn;
 ghost use Prim.Native.Nat.{_+_, _≤_};
 
@@ -27,8 +25,10 @@ pub(crate) enum Part {
     Columns,
 }
 
-// How many marks follow a line.
-pub(crate) const MARKS: usize = 5;
+// The marks of a plan and of a face call that disagree with the whole build.
+const PLAN: u32 = 9;
+
+const FACE: u32 = 10;
 
 // Where the answers of a line start, and how many cells they are.
 pub(crate) struct Outputs {
@@ -60,55 +60,8 @@ pub(crate) fn outputs_of(part: Part) -> Outputs
     }
 }
 
-fn counted(vertices: u32, indices: u32) -> [u32; 2] {
-    [vertices, indices]
-}
-
-// The counts that the answer to a line should have.
-fn counts(part: Part, words: &[u32; CELLS]) -> [u32; 2] {
-    match part {
-        Part::Scales => counted(words[3], words[4]),
-        Part::Offsets => counted(words[3], words[4]),
-        Part::UvScales => counted(words[2], words[3]),
-        Part::Means => counted(words[0], words[1]),
-        Part::UvMeans => counted(words[0], words[1]),
-        Part::Merges => counted(words[84], words[85]),
-        Part::Columns => counted(12, 48),
-    }
-}
-
-// Puts the marks that a line should have behind it.
-pub(crate) fn expect_marks(part: Part, words: &mut [u32; CELLS], end: usize)
-    requires { ⌜ end + 5 ≤ 172 ⌝ }
-{
-    let expected = counts(part, words);
-    words[end] = 0;
-    words[end + 1] = expected[0];
-    words[end + 2] = expected[1];
-    words[end + 3] = 0;
-    words[end + 4] = 0;
-}
-
-fn put_marks(cells: &mut [u32; OUTPUTS], at: usize, answer: Answer, changed: u32, disagrees: u32)
-    requires { ⌜ at + 5 ≤ 149 ⌝ }
-{
-    let counts = answer::answer::counts_of(answer);
-    cells[at] = answer::answer::number_of(answer);
-    cells[at + 1] = cells::narrow(counts.vertices.0);
-    cells[at + 2] = cells::narrow(counts.indices.0);
-    cells[at + 3] = changed;
-    cells[at + 4] = disagrees;
-}
-
-fn counts_from(v: usize, n: usize) -> Counts {
-    Counts {
-        vertices: VertexNumber(v),
-        indices: IndexPlace(n),
-    }
-}
-
 fn take2(words: &[u32; CELLS], at: usize) -> Vec2
-    requires { ⌜ at + 2 ≤ 172 ⌝ }
+    requires { ⌜ at + 2 ≤ 168 ⌝ }
 {
     Vec2 {
         x: cells::take(words, at),
@@ -117,7 +70,7 @@ fn take2(words: &[u32; CELLS], at: usize) -> Vec2
 }
 
 fn take3(words: &[u32; CELLS], at: usize) -> Vec3
-    requires { ⌜ at + 3 ≤ 172 ⌝ }
+    requires { ⌜ at + 3 ≤ 168 ⌝ }
 {
     Vec3 {
         x: cells::take(words, at),
@@ -126,9 +79,39 @@ fn take3(words: &[u32; CELLS], at: usize) -> Vec3
     }
 }
 
-// The cells of a mesh, in a line with room for so many vertices and indices, and its marks.
+// Holds an answer to the counts that it should be done with.
+fn held(answer: Answer, v: u32, n: u32) -> u32 {
+    answers::judged(answer, 0, v as usize, n as usize)
+}
+
+// What is not as it should be of an answer with so many vertices and indices, and of the lists past them.
+fn mark(
+    answer: Answer,
+    v: u32,
+    n: u32,
+    vertices: &[f32; FLOATS],
+    normals: &[f32; FLOATS],
+    uvs: &[f32; FLOATS],
+    indices: &[u16; INDICES],
+) -> u32 {
+    let judged = held(answer, v, n);
+    if judged != answers::RIGHT {
+        return judged;
+    }
+    cells::changed(
+        cells::at_most(v, 12),
+        n as usize,
+        vertices,
+        normals,
+        uvs,
+        indices,
+    )
+}
+
+// The cells of a mesh that should have these counts, in a line with room for more, and its mark.
 fn mesh_cells(
     answer: Answer,
+    expected: [u32; 2],
     room: usize,
     most: usize,
     vertices: &[f32; FLOATS],
@@ -142,75 +125,55 @@ fn mesh_cells(
     let counts = answer::answer::counts_of(answer);
     out[0] = cells::narrow(counts.vertices.0);
     out[1] = cells::narrow(counts.indices.0);
-    let v = cells::at_most(out[0], room);
-    let n = cells::at_most(out[1], most);
-    cells::put_mesh(&mut out, 2, room, v, n, vertices, normals, uvs, indices);
-    let changed = cells::changed(v, n, vertices, normals, uvs, indices);
-    put_marks(&mut out, 2 + 8 * room + most, answer, changed, 0);
+    let a = cells::at_most(out[0], room);
+    let b = cells::at_most(out[1], most);
+    cells::put_mesh(&mut out, 2, room, a, b, vertices, normals, uvs, indices);
+    out[2 + 8 * room + most] = mark(
+        answer,
+        expected[0],
+        expected[1],
+        vertices,
+        normals,
+        uvs,
+        indices,
+    );
     out
 }
 
-// Scaled, or moved.
+// Scaled, moved, or with its texture scaled.
 fn moved(
-    shift: bool,
+    part: Part,
+    words: &[u32; CELLS],
     counts: Counts,
-    by: Vec3,
     vertices: &mut [f32; FLOATS],
-    normals: &[f32; FLOATS],
-    uvs: &[f32; FLOATS],
-    indices: &[u16; INDICES],
-) -> Answer {
-    if shift {
-        return mesh::stored::offset(counts, by, vertices, normals, uvs, indices);
-    }
-    mesh::stored::scale(counts, by, vertices, normals, uvs, indices)
-}
-
-fn scale_or_offset(words: &[u32; CELLS], shift: bool) -> [u32; OUTPUTS] {
-    let mut vertices = [KEPT; FLOATS];
-    let mut normals = [KEPT; FLOATS];
-    let mut uvs = [KEPT; FLOATS];
-    let mut indices = [KEPT_INDEX; INDICES];
-    let v = cells::at_most(words[3], 4);
-    let n = cells::at_most(words[4], 8);
-    cells::take_mesh(
-        words,
-        3,
-        4,
-        v,
-        n,
-        &mut vertices,
-        &mut normals,
-        &mut uvs,
-        &mut indices,
-    );
-    let by = take3(words, 0);
-    let counts = counts_from(v, n);
-    let answer = moved(shift, counts, by, &mut vertices, &normals, &uvs, &indices);
-    mesh_cells(answer, 4, 8, &vertices, &normals, &uvs, &indices)
-}
-
-fn textured(
-    counts: Counts,
-    by: Vec2,
-    vertices: &[f32; FLOATS],
     normals: &[f32; FLOATS],
     uvs: &mut [f32; FLOATS],
     indices: &[u16; INDICES],
 ) -> Answer {
-    mesh::stored::texture_scale(counts, by, vertices, normals, uvs, indices)
+    match part {
+        Part::Scales => {
+            mesh::stored::scale(counts, take3(words, 0), vertices, normals, uvs, indices)
+        }
+        Part::Offsets => {
+            mesh::stored::offset(counts, take3(words, 0), vertices, normals, uvs, indices)
+        }
+        _ => mesh::stored::texture_scale(counts, take2(words, 0), vertices, normals, uvs, indices),
+    }
 }
 
-fn uv_scale(words: &[u32; CELLS]) -> [u32; OUTPUTS] {
+// A line that has one mesh, at a place behind the parameter, and what it becomes.
+fn move_line(part: Part, words: &[u32; CELLS], at: usize) -> [u32; OUTPUTS]
+    requires { ⌜ at ≤ 3 ⌝ }
+{
     let mut vertices = [KEPT; FLOATS];
     let mut normals = [KEPT; FLOATS];
     let mut uvs = [KEPT; FLOATS];
     let mut indices = [KEPT_INDEX; INDICES];
-    let v = cells::at_most(words[2], 4);
-    let n = cells::at_most(words[3], 8);
+    let v = cells::at_most(words[at], 4);
+    let n = cells::at_most(words[at + 1], 8);
     cells::take_mesh(
         words,
-        2,
+        at,
         4,
         v,
         n,
@@ -219,14 +182,23 @@ fn uv_scale(words: &[u32; CELLS]) -> [u32; OUTPUTS] {
         &mut uvs,
         &mut indices,
     );
-    let by = take2(words, 0);
-    let counts = counts_from(v, n);
-    let answer = textured(counts, by, &vertices, &normals, &mut uvs, &indices);
-    mesh_cells(answer, 4, 8, &vertices, &normals, &uvs, &indices)
+    let counts = answers::counts(v, n);
+    let answer = moved(
+        part,
+        words,
+        counts,
+        &mut vertices,
+        &normals,
+        &mut uvs,
+        &indices,
+    );
+    let expected = [words[at], words[at + 1]];
+    mesh_cells(answer, expected, 4, 8, &vertices, &normals, &uvs, &indices)
 }
 
-// The centroid of a mesh and the marks behind it.
+// The centroid of a mesh and the mark behind it.
 fn mean_cells(
+    words: &[u32; CELLS],
     counts: Counts,
     vertices: &[f32; FLOATS],
     normals: &[f32; FLOATS],
@@ -240,11 +212,12 @@ fn mean_cells(
     out[0] = record::pattern(centroid.x);
     out[1] = record::pattern(centroid.y);
     out[2] = record::pattern(centroid.z);
-    put_marks(&mut out, 3, answer, 0, 0);
+    out[3] = held(answer, words[0], words[1]);
     out
 }
 
 fn uv_mean_cells(
+    words: &[u32; CELLS],
     counts: Counts,
     vertices: &[f32; FLOATS],
     normals: &[f32; FLOATS],
@@ -257,7 +230,7 @@ fn uv_mean_cells(
     let centroid = made.centroid;
     out[0] = record::pattern(centroid.x);
     out[1] = record::pattern(centroid.y);
-    put_marks(&mut out, 2, answer, 0, 0);
+    out[2] = held(answer, words[0], words[1]);
     out
 }
 
@@ -279,11 +252,11 @@ fn mean(words: &[u32; CELLS], of_uvs: bool) -> [u32; OUTPUTS] {
         &mut uvs,
         &mut indices,
     );
-    let counts = counts_from(v, n);
+    let counts = answers::counts(v, n);
     if of_uvs {
-        return uv_mean_cells(counts, &vertices, &normals, &uvs, &indices);
+        return uv_mean_cells(words, counts, &vertices, &normals, &uvs, &indices);
     }
-    mean_cells(counts, &vertices, &normals, &uvs, &indices)
+    mean_cells(words, counts, &vertices, &normals, &uvs, &indices)
 }
 
 fn merge_lists(
@@ -344,13 +317,14 @@ fn merge_onto(
         from_normals,
         from_uvs,
         from_indices,
-        counts_from(v, n),
+        answers::counts(v, n),
         &mut vertices,
         &mut normals,
         &mut uvs,
         &mut indices,
     );
-    mesh_cells(answer, 8, 16, &vertices, &normals, &uvs, &indices)
+    let expected = [words[84], words[85]];
+    mesh_cells(answer, expected, 8, 16, &vertices, &normals, &uvs, &indices)
 }
 
 fn merge(words: &[u32; CELLS]) -> [u32; OUTPUTS] {
@@ -371,7 +345,7 @@ fn merge(words: &[u32; CELLS]) -> [u32; OUTPUTS] {
         &mut uvs,
         &mut indices,
     );
-    let source = counts_from(v, n);
+    let source = answers::counts(v, n);
     merge_onto(words, source, &vertices, &normals, &uvs, &indices)
 }
 
@@ -382,102 +356,29 @@ fn job(words: &[u32; CELLS]) -> CheapColumn {
     }
 }
 
-fn same_list(a: &[f32; FLOATS], b: &[f32; FLOATS]) -> bool {
-    let mut i = 0;
-    while i < 40 {
-        if record::pattern(a[i]) != record::pattern(b[i]) {
-            return false;
-        }
-        i += 1;
-    }
-    true
-}
-
-fn same_indices(a: &[u16; INDICES], b: &[u16; INDICES]) -> bool {
-    let mut i = 0;
-    while i < 52 {
-        if a[i] != b[i] {
-            return false;
-        }
-        i += 1;
-    }
-    true
-}
-
-// Whether an answer is done, with the counts of every cheap column.
-fn is_done(answer: Answer) -> bool {
-    match answer {
-        Answer::Done(counts) => {
-            if counts.vertices.0 == 12 {
-                return counts.indices.0 == 48;
-            }
-            false
-        }
-        Answer::Refused(_) => false,
-    }
-}
-
-// Which place of the face call disagrees with the whole build: 0 for none.
-fn face_disagrees(
-    words: &[u32; CELLS],
+// The whole build, or the call of its one face.
+fn built(
+    single: bool,
+    job: CheapColumn,
     corners: &[f32; 12],
-    whole_vertices: &[f32; FLOATS],
-    whole_normals: &[f32; FLOATS],
-    whole_uvs: &[f32; FLOATS],
-    whole_indices: &[u16; INDICES],
-) -> u32 {
+    vertices: &mut [f32; FLOATS],
+    normals: &mut [f32; FLOATS],
+    uvs: &mut [f32; FLOATS],
+    indices: &mut [u16; INDICES],
+) -> Answer {
+    if single {
+        return mesh::cheap_column::face(job, corners, 0, vertices, normals, uvs, indices);
+    }
+    mesh::cheap_column::build(job, corners, vertices, normals, uvs, indices)
+}
+
+fn column(words: &[u32; CELLS], corners: &[f32; 12], single: bool) -> [u32; OUTPUTS] {
     let mut vertices = [KEPT; FLOATS];
     let mut normals = [KEPT; FLOATS];
     let mut uvs = [KEPT; FLOATS];
     let mut indices = [KEPT_INDEX; INDICES];
-    let answer = mesh::cheap_column::face(
-        job(words),
-        corners,
-        0,
-        &mut vertices,
-        &mut normals,
-        &mut uvs,
-        &mut indices,
-    );
-    if !is_done(answer) {
-        return 1;
-    }
-    if !same_list(&vertices, whole_vertices) {
-        return 2;
-    }
-    if !same_list(&normals, whole_normals) {
-        return 3;
-    }
-    if !same_list(&uvs, whole_uvs) {
-        return 4;
-    }
-    if !same_indices(&indices, whole_indices) {
-        return 5;
-    }
-    0
-}
-
-// What disagrees with the whole build: the plan, or the face call.
-fn disagrees(
-    words: &[u32; CELLS],
-    corners: &[f32; 12],
-    vertices: &[f32; FLOATS],
-    normals: &[f32; FLOATS],
-    uvs: &[f32; FLOATS],
-    indices: &[u16; INDICES],
-) -> u32 {
-    if !is_done(mesh::cheap_column::plan(job(words), corners)) {
-        return 6;
-    }
-    face_disagrees(words, corners, vertices, normals, uvs, indices)
-}
-
-fn column(words: &[u32; CELLS], corners: &[f32; 12]) -> [u32; OUTPUTS] {
-    let mut vertices = [KEPT; FLOATS];
-    let mut normals = [KEPT; FLOATS];
-    let mut uvs = [KEPT; FLOATS];
-    let mut indices = [KEPT_INDEX; INDICES];
-    let answer = mesh::cheap_column::build(
+    let answer = built(
+        single,
         job(words),
         corners,
         &mut vertices,
@@ -487,10 +388,36 @@ fn column(words: &[u32; CELLS], corners: &[f32; 12]) -> [u32; OUTPUTS] {
     );
     let mut out = [0u32; OUTPUTS];
     cells::put_mesh(&mut out, 0, 12, 12, 48, &vertices, &normals, &uvs, &indices);
-    let changed = cells::changed(12, 48, &vertices, &normals, &uvs, &indices);
-    let other = disagrees(words, corners, &vertices, &normals, &uvs, &indices);
-    put_marks(&mut out, 144, answer, changed, other);
+    out[144] = mark(answer, 12, 48, &vertices, &normals, &uvs, &indices);
     out
+}
+
+fn same_cells(a: &[u32; OUTPUTS], b: &[u32; OUTPUTS]) -> bool {
+    let mut i = 0;
+    while i < 145 {
+        if a[i] != b[i] {
+            return false;
+        }
+        i += 1;
+    }
+    true
+}
+
+// The mark of a whole build, or what disagrees with it.
+fn column_mark(
+    words: &[u32; CELLS],
+    corners: &[f32; 12],
+    whole: &[u32; OUTPUTS],
+    single: &[u32; OUTPUTS],
+) -> u32 {
+    let plan = mesh::cheap_column::plan(job(words), corners);
+    if answers::judged(plan, 0, 12, 48) != answers::RIGHT {
+        return PLAN;
+    }
+    if !same_cells(whole, single) {
+        return FACE;
+    }
+    whole[144]
 }
 
 fn column_line(words: &[u32; CELLS]) -> [u32; OUTPUTS] {
@@ -508,15 +435,19 @@ fn column_line(words: &[u32; CELLS]) -> [u32; OUTPUTS] {
         cells::take(words, 10),
         cells::take(words, 11),
     ];
-    column(words, &corners)
+    let mut whole = column(words, &corners, false);
+    let single = column(words, &corners, true);
+    let found = column_mark(words, &corners, &whole, &single);
+    whole[144] = found;
+    whole
 }
 
-// The cells of a line's answers and its marks; those past them are 0 and not compared.
+// The cells of a line's answers and its mark; those past them are 0 and not compared.
 pub(crate) fn answers(part: Part, words: &[u32; CELLS]) -> [u32; OUTPUTS] {
     match part {
-        Part::Scales => scale_or_offset(words, false),
-        Part::Offsets => scale_or_offset(words, true),
-        Part::UvScales => uv_scale(words),
+        Part::Scales => move_line(part, words, 3),
+        Part::Offsets => move_line(part, words, 3),
+        Part::UvScales => move_line(part, words, 2),
         Part::Means => mean(words, false),
         Part::UvMeans => mean(words, true),
         Part::Merges => merge(words),

@@ -1,10 +1,6 @@
 // The report of what was compared.
 use record::tally::Tally;
 
-fn print(text: &[u8]) {
-    io::write_all(1, text);
-}
-
 fn print_number(text: &[u8], n: u64) {
     io::write_all(1, text);
     io::print_decimal(1, n);
@@ -15,24 +11,38 @@ fn print_pattern(text: &[u8], bits: u32) {
     io::print_hex(1, bits as u64, 8);
 }
 
+// A part's name, which ends at a space.
+fn print_name(name: &[u8]) {
+    let mut n = 0;
+    while n < name.len() {
+        if name[n] == b' ' {
+            break;
+        }
+        n += 1;
+    }
+    io::write_all(1, &name[..n]);
+}
+
 // The first line that differs, if there is one, and its first cell that does.
 pub(crate) fn print_first(name: &[u8], t: Tally) {
     if t.differ == 0 {
         return;
     }
-    print_number(name, t.a as u64);
+    print_name(name);
+    print_number(b" line ", t.a as u64);
     print_number(b", cell ", t.b as u64);
     print_pattern(b" is ", t.made);
     print_pattern(b", not ", t.recorded);
-    print(b"\n");
+    io::write_all(1, b"\n");
 }
 
 pub(crate) fn print_counts(name: &[u8], t: Tally) {
-    print_number(name, t.count);
+    print_name(name);
+    print_number(b" ", t.count);
     print_number(b", differ ", t.differ);
-    print(b"\n");
+    io::write_all(1, b"\n");
 }
 
 pub(crate) fn refuse() {
-    print(b"the record does not read\n");
+    io::write_all(1, b"the record does not read\n");
 }

@@ -1,10 +1,8 @@
-// Calls `mesh` on stored meshes and cheap columns with every fault that can stand beside another, holds
-// each answer and every place of the lent lists to what they should be, and writes how many differ.
-mod answers;
-mod columns;
-mod lists;
+// Calls `mesh` on stored meshes with every fault that can stand beside another, holds each answer and
+// every place of the lent lists to what they should be, and writes how many differ.
 mod stored;
 
+use known::lists;
 use record::tally;
 use record::tally::Tally;
 use stored::Kind;
@@ -24,14 +22,6 @@ fn stored_all(kind: Kind, moving: &mut [f32], still: &mut [f32]) -> Tally {
     for k in 0usize..n {
         let found = stored::judged(stored::case_of(kind, k), moving, still, &indices);
         t = counted(t, k, found);
-    }
-    t
-}
-
-fn columns_all() -> Tally {
-    let mut t = tally::nothing_yet();
-    for k in 0usize..columns::CASES {
-        t = counted(t, k, columns::case_judged(k));
     }
     t
 }
@@ -74,6 +64,5 @@ fn great() {
 
 fn main() {
     small();
-    report(b"column ", b"columns ", columns_all());
     great();
 }

@@ -1,11 +1,11 @@
 // Stored meshes of known lists, each with some faults, and what the calls on them should come to.
-use crate::answers;
-use crate::lists;
-use crate::lists::Lengths;
 use answer::answer::Answer;
 use face::triangle::Counts;
 use face::vec::Vec2;
 use face::vec::Vec3;
+use known::answers;
+use known::lists;
+use known::lists::Lengths;
 
 // Which call: 0 scales, 1 offsets, 2 scales the texture, 3 and 4 are the centroids. The list that
 // the call works on is list 1, and the others are parts of list 2.
@@ -268,17 +268,20 @@ pub(crate) fn judged(c: Stored, moving: &mut [f32], still: &[f32], indices: &[u1
 // those with one number beyond it.
 pub(crate) const PARAMETERS: usize = 20;
 
+// Numbers far from every edge: 1.5, -0.75 and 3.
+const EASY: [u32; 3] = [0x3fc0_0000, 0xbf40_0000, 0x4040_0000];
+
 // The number of a part of a parameter: at ease, or at the edge.
 fn number(which: usize, part: usize) -> f32 {
     if which == 0 {
-        return record::float(answers::EASY[part % 3]);
+        return record::float(EASY[part % 3]);
     }
     if which < 5 {
         let at = (which + part % 3) % 4 + 5;
         return record::float(answers::EDGES[at]);
     }
     if (which - 5) % 3 != part {
-        return record::float(answers::EASY[part % 3]);
+        return record::float(EASY[part % 3]);
     }
     let at = (which - 5) / 3 % 5;
     record::float(answers::EDGES[at])

@@ -1,15 +1,20 @@
 // Merges of known lists, each with some faults, and what they should come to.
-use crate::answers;
-use crate::lists;
-use crate::lists::Lengths;
-use crate::lists::Window;
+use crate::places;
+use crate::places::Window;
 use answer::answer::Answer;
 use face::triangle::Counts;
+use known::answers;
+use known::lists;
+use known::lists::Lengths;
 ghost use Prim.Native.Nat.{_≤_};
-ghost use lib.ListN.{length};
 
 // The lists of a source are this one, each from another place on.
-pub(crate) const SOURCE: u32 = 4;
+const SOURCE: u32 = 4;
+
+// The room of the lists: for 65,537 vertices, and for more indices than any build has.
+const FLOATS: usize = 196613;
+
+const INDICES: usize = 300005;
 
 // The source's list of indices has one that stands out.
 pub(crate) struct Merge {
@@ -107,29 +112,25 @@ fn source_index(vertices: usize, count: usize, place: usize) -> u16 {
     ((place % vertices) % 65536) as u16
 }
 
-fn fill_source(out: &mut [u16], vertices: usize, count: usize, place: usize, value: u16) {
-    let mut i = 0;
-    while i < out.len() {
-        out[i] = if i == place {
-            value
-        } else {
-            source_index(vertices, count, i)
-        };
-        i += 1;
+fn source_at(m: Merge, place: usize) -> u16 {
+    if place == m.place {
+        return m.value;
     }
+    source_index(m.source.vertices.0, m.source.indices.0, place)
 }
 
-fn fill_target(vertices: &mut [f32], normals: &mut [f32], uvs: &mut [f32], indices: &mut [u16]) {
-    lists::fill(1, vertices);
-    lists::fill(2, normals);
-    lists::fill(3, uvs);
-    lists::fill_indices(indices);
+fn fill_source(m: Merge, out: &mut [u16]) {
+    let mut i = 0;
+    while i < out.len() {
+        out[i] = source_at(m, i);
+        i += 1;
+    }
 }
 
 // Which places of a target's list should have changed.
 fn window(m: Merge, from: usize, to: usize, start: usize) -> Window {
     if m.expected != 0 {
-        return lists::nothing();
+        return places::nothing();
     }
     Window {
         from: from,
@@ -157,7 +158,7 @@ fn expected_index(m: Merge, place: usize) -> u32 {
 fn indices_hold(m: Merge, indices: &[u16]) -> bool {
     let mut i = 0;
     while i < indices.len() {
-        if lists::wide(indices[i]) != expected_index(m, i) {
+        if places::wide(indices[i]) != expected_index(m, i) {
             return false;
         }
         i += 1;
@@ -166,16 +167,22 @@ fn indices_hold(m: Merge, indices: &[u16]) -> bool {
 }
 
 // Holds every place of the target's lists to what it should be.
-fn lists_judged(m: Merge, vertices: &[f32], normals: &[f32], uvs: &[f32], indices: &[u16]) -> u32 {
+fn lists_judged(
+    m: Merge,
+    vertices: &[f32; FLOATS],
+    normals: &[f32; FLOATS],
+    uvs: &[f32; FLOATS],
+    indices: &[u16; INDICES],
+) -> u32 {
     let own = m.own;
     let need = m.need;
-    if !lists::holds(vertices, 1, window(m, own.vertices, need.vertices, 0)) {
+    if !places::holds(vertices, 1, window(m, own.vertices, need.vertices, 0)) {
         return answers::VERTICES;
     }
-    if !lists::holds(normals, 2, window(m, own.normals, need.normals, 1)) {
+    if !places::holds(normals, 2, window(m, own.normals, need.normals, 1)) {
         return answers::NORMALS;
     }
-    if !lists::holds(uvs, 3, window(m, own.uvs, need.uvs, 2)) {
+    if !places::holds(uvs, 3, window(m, own.uvs, need.uvs, 2)) {
         return answers::UVS;
     }
     if !indices_hold(m, indices) {
@@ -227,28 +234,28 @@ fn onto(
 // The same, with as much of each of the source's lists.
 fn called(
     m: Merge,
-    from: &[f32],
-    from_indices: &[u16],
-    vertices: &mut [f32],
-    normals: &mut [f32],
-    uvs: &mut [f32],
-    indices: &mut [u16],
-) -> Answer
-    requires { ⌜ 2 ≤ length (now from) ⌝ }
-{
-    let room = from.len() - 2;
+    from: &[f32; FLOATS],
+    from_indices: &[u16; INDICES],
+    vertices: &mut [f32; FLOATS],
+    normals: &mut [f32; FLOATS],
+    uvs: &mut [f32; FLOATS],
+    indices: &mut [u16; INDICES],
+) -> Answer {
+    let all = &from[..];
+    let all_indices = &from_indices[..];
+    let room = FLOATS - 2;
     let given = m.given;
-    let l = lists::within(given, room, room, room, from_indices.len());
+    let l = lists::within(given, room, room, room, INDICES);
     let v = l.vertices;
     let n = l.normals + 1;
     let u = l.uvs + 2;
     let i = l.indices;
     onto(
         m,
-        &from[..v],
-        &from[1..n],
-        &from[2..u],
-        &from_indices[..i],
+        &all[..v],
+        &all[1..n],
+        &all[2..u],
+        &all_indices[..i],
         vertices,
         normals,
         uvs,
@@ -256,63 +263,53 @@ fn called(
     )
 }
 
+// Whether a case lends more than the lists have.
+fn is_too_long(m: Merge) -> bool {
+    let given = m.given;
+    let lent = m.lent;
+    let room = FLOATS - 2;
+    if !lists::fits(given, room, room, room, INDICES) {
+        return true;
+    }
+    !lists::fits(lent, FLOATS, FLOATS, FLOATS, INDICES)
+}
+
 // Merges, and finds what is not as it should be.
-fn found(
-    m: Merge,
-    from: &[f32],
-    from_indices: &[u16],
-    vertices: &mut [f32],
-    normals: &mut [f32],
-    uvs: &mut [f32],
-    indices: &mut [u16],
-) -> u32
-    requires { ⌜ 2 ≤ length (now from) ⌝ }
-{
-    let answer = called(m, from, from_indices, vertices, normals, uvs, indices);
+fn found(m: Merge) -> u32 {
+    let mut from = [0.0f32; FLOATS];
+    let mut from_indices = [0u16; INDICES];
+    let mut vertices = [0.0f32; FLOATS];
+    let mut normals = [0.0f32; FLOATS];
+    let mut uvs = [0.0f32; FLOATS];
+    let mut indices = [0u16; INDICES];
+    lists::fill(SOURCE, &mut from);
+    fill_source(m, &mut from_indices);
+    lists::fill(1, &mut vertices);
+    lists::fill(2, &mut normals);
+    lists::fill(3, &mut uvs);
+    lists::fill_indices(&mut indices);
+    let answer = called(
+        m,
+        &from,
+        &from_indices,
+        &mut vertices,
+        &mut normals,
+        &mut uvs,
+        &mut indices,
+    );
     let found = answers::judged(answer, m.expected, m.merged, m.need.indices);
     if found != answers::RIGHT {
         return found;
     }
-    lists_judged(m, vertices, normals, uvs, indices)
+    lists_judged(m, &vertices, &normals, &uvs, &indices)
 }
 
 // What a merge finds first that is not as it should be.
-pub(crate) fn judged(
-    m: Merge,
-    from: &[f32],
-    from_indices: &mut [u16],
-    vertices: &mut [f32],
-    normals: &mut [f32],
-    uvs: &mut [f32],
-    indices: &mut [u16],
-) -> u32 {
-    let given = m.given;
-    let lent = m.lent;
-    if from.len() < 2 {
+pub(crate) fn judged(m: Merge) -> u32 {
+    if is_too_long(m) {
         return answers::TOO_LONG;
     }
-    let room = from.len() - 2;
-    if !lists::fits(given, room, room, room, from_indices.len()) {
-        return answers::TOO_LONG;
-    }
-    if !lists::fits(
-        lent,
-        vertices.len(),
-        normals.len(),
-        uvs.len(),
-        indices.len(),
-    ) {
-        return answers::TOO_LONG;
-    }
-    fill_source(
-        from_indices,
-        m.source.vertices.0,
-        m.source.indices.0,
-        m.place,
-        m.value,
-    );
-    fill_target(vertices, normals, uvs, indices);
-    found(m, from, from_indices, vertices, normals, uvs, indices)
+    found(m)
 }
 
 // Each set of faults that a merge of these counts can have: a short list, an unlawful index of three

@@ -1,4 +1,4 @@
--- `mesh_cases::with_line` is safe: the part of the buffer that is read into is as long as the line, and leaves room for the marks. Assumes nothing.
+-- `mesh_cases::with_line` is safe: the part of the buffer that is read into is as long as the line, and leaves room for the mark. Assumes nothing.
 use native.Mathlib.Omega.{arith}
 use lib.ListN.{length-take}
 use borrow.Author.Needs.{needs}
@@ -12,7 +12,6 @@ with-line-spec =
     (λ c. search needs)
     (λ c. search needs)
     (λ c. simp length-take (omega arith))
-    (λ c κs. search needs)
     (λ c κs. search needs)
     (λ c κs. search needs)
     (λ c. search needs)

@@ -21,8 +21,4 @@ called-spec =
     (λ c. search needs)
     (λ c. simp length-take (omega arith))
     (λ c κs. search needs)
-    (λ c. search needs)
-    (λ c. search needs)
-    (λ c. search needs)
-    (λ c. search needs)
     (λ c. search needs))

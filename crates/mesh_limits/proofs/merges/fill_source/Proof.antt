@@ -8,10 +8,10 @@ use Rattle.mesh_limits.proofs.merges.fill_source.Statement.{statement}
 use Rattle.mesh_limits.proofs.merges.fill_source.Tie as tie
 
 abbrev Inv-loop : tie.InvT-loop
-Inv-loop out₀ vertices count place value i₀ out i = length out ≡ length out₀
+Inv-loop m out₀ i₀ out i = length out ≡ length out₀
 
 abbrev μ-loop : tie.MeasureT-loop
-μ-loop out₀ vertices count place value i₀ out i = length out - i
+μ-loop m out₀ i₀ out i = length out - i
 
 pub fill-source-spec : {M : Type 1} → statement M
 fill-source-spec =

@@ -1,0 +1,29 @@
+-- `cheap_faults::columns::fill_corners` is safe and ends: `i` counts up to the list's length, which no write changes. Assumes nothing.
+use Prim.Native.Nat.{_-_}
+use mathlib.Core.Path.{_≡_}
+use native.Mathlib.Omega.{arith}
+use lib.ListN.{length, length-set}
+use borrow.Author.Needs.{needs}
+use Rattle.cheap_faults.proofs.columns.fill_corners.Statement.{statement}
+use Rattle.cheap_faults.proofs.columns.fill_corners.Tie as tie
+
+abbrev Inv-loop : tie.InvT-loop
+Inv-loop j out₀ i₀ out i = length out ≡ length out₀
+
+abbrev μ-loop : tie.MeasureT-loop
+μ-loop j out₀ i₀ out i = length out - i
+
+pub fill-corners-spec : {M : Type 1} → statement M
+fill-corners-spec =
+    tie.close
+    (tie.spec Inv-loop
+    μ-loop
+    (λ c. search needs)
+    (λ c κs. search needs)
+    (λ c. search needs)
+    (λ c. search needs)
+    (λ c. search needs)
+    (λ c. simp length-set (omega arith))
+    (λ c. simp length-set (omega arith))
+    (λ c. search needs)
+    (λ c. search needs))
