@@ -2,7 +2,9 @@
 // its uvs altered last. A job of one face, whose number is 0.
 ghost use mathlib.Core.Path.{_≡_};
 ghost use mathlib.Core.Bool.{true};
-ghost use lib.ListN.{length};
+ghost use lib.ListN.{getD};
+ghost use lib.Ieee.{nan};
+ghost use Rattle.mesh.specs.Stored.{uvFrom};
 ghost use Rattle.buffers.specs.Mesh.{none, measure};
 ghost use Rattle.buffers.specs.Laying.{four, fits, layAll};
 ghost use Rattle.plane_builder.specs.Plane.{settled, alteredHexagon, cornersOf, hexagonBy, planeFaces, shapeOf, placeOf, rangeOf, planned, wholeAnswer, faceAnswer, built, faced};
@@ -28,40 +30,42 @@ pub struct Plane {
     pub placement: Placement,
 }
 
-fn corners_of(corners: &[f32]) -> [Vec2; 6]
-    requires { ⌜ length (now corners) ≡ 12 ⌝ }
+// A number of a list, and NaN past its end.
+fn number_at(list: &[f32], i: usize) -> f32
+    ensures { λ r. ⌜ r ≡ getD (now (list .entry)) i nan ⌝ }
+{
+    if i < list.len() {
+        return list[i];
+    }
+    0.0 / 0.0
+}
+
+// Two numbers of a list that follow each other, as x and z of a corner.
+pub fn pair_at(list: &[f32], at: u32) -> Vec2
+    ensures { λ r. ⌜ r ≡ uvFrom (now (list .entry)) at ⌝ }
+{
+    let i = at as usize;
+    Vec2 {
+        x: number_at(list, i),
+        y: number_at(list, i + 1),
+    }
+}
+
+pub fn corners_of(corners: &[f32]) -> [Vec2; 6]
     ensures { λ r. ⌜ r ≡ cornersOf (now (corners .entry)) ⌝ }
 {
     [
-        Vec2 {
-            x: corners[0],
-            y: corners[1],
-        },
-        Vec2 {
-            x: corners[2],
-            y: corners[3],
-        },
-        Vec2 {
-            x: corners[4],
-            y: corners[5],
-        },
-        Vec2 {
-            x: corners[6],
-            y: corners[7],
-        },
-        Vec2 {
-            x: corners[8],
-            y: corners[9],
-        },
-        Vec2 {
-            x: corners[10],
-            y: corners[11],
-        },
+        pair_at(corners, 0),
+        pair_at(corners, 2),
+        pair_at(corners, 4),
+        pair_at(corners, 6),
+        pair_at(corners, 8),
+        pair_at(corners, 10),
     ]
 }
 
 // The placement of a whole mesh: the position is always added, so -0 there becomes +0.
-fn settle(s: Placement, at: Vec2) -> Placement
+pub fn settle(s: Placement, at: Vec2) -> Placement
     ensures { λ r. ⌜ r ≡ settled s at ⌝ }
 {
     let scale = s.scale;
@@ -85,7 +89,8 @@ fn settle(s: Placement, at: Vec2) -> Placement
     }
 }
 
-fn alter(o: UvOptions, h: InsetHexagon) -> InsetHexagon
+// The uvs of both points of each corner, the inset's too.
+pub fn alter(o: UvOptions, h: InsetHexagon) -> InsetHexagon
     ensures { λ r. ⌜ r ≡ alteredHexagon o h ⌝ }
 {
     let positions = h.positions;
@@ -100,7 +105,6 @@ fn alter(o: UvOptions, h: InsetHexagon) -> InsetHexagon
 }
 
 fn hexagon_by(job: Plane, corners: &[f32], o: FaceOptions) -> InsetHexagon
-    requires { ⌜ length (now corners) ≡ 12 ⌝ }
     ensures { λ r. ⌜ r ≡ hexagonBy job (now (corners .entry)) o ⌝ }
 {
     let s = job.placement;
@@ -154,7 +158,7 @@ fn put(
     uvs: &mut [f32],
     indices: &mut [u16],
 )
-    requires { ⌜ (length (now corners) ≡ 12) × (fits none (measure (planeFaces job (now corners) (now numbers) (now marks))) (four (now vertices) (now normals) (now uvs) (now indices)) ≡ true) ⌝ }
+    requires { ⌜ fits none (measure (planeFaces job (now corners) (now numbers) (now marks))) (four (now vertices) (now normals) (now uvs) (now indices)) ≡ true ⌝ }
     ensures { λ _. ⌜ four (now (vertices .exit)) (now (normals .exit)) (now (uvs .exit)) (now (indices .exit)) ≡ layAll (planeFaces job (now (corners .entry)) (now (numbers .entry)) (now (marks .entry))) none (four (now (vertices .entry)) (now (normals .entry)) (now (uvs .entry)) (now (indices .entry))) ⌝ }
 {
     let o = placement::options::option_at(numbers, marks, job.option);

@@ -22,8 +22,7 @@ build-spec =
     let a = c .before .before .before .before .before .before .before .before .before .before .before .before .before .before .before .before .args in
     let B = four (now (a .vertices)) (now (a .normals)) (now (a .uvs)) (now (a .indices)) in
     let e = sym (rw (c .before .before .before .before .before .before .before .before .plan .ensures) at (c .before .before .before .before .before .before .before .room .ensures)) ∙ c .before .before .before .before .before .answer2 .given .1 in
-    let r = whole-ready (a .job) (now (a .corners)) (now (a .numbers)) (now (a .marks)) B _ e in
-    (r .twelve, r .room))
+    whole-ready (a .job) (now (a .corners)) (now (a .numbers)) (now (a .marks)) B _ e)
     (λ c.
     let a = c .before .before .before .before .before .before .before .before .before .before .before .before .args in
     let B = four (now (a .vertices)) (now (a .normals)) (now (a .uvs)) (now (a .indices)) in

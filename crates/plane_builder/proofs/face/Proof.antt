@@ -23,8 +23,7 @@ face-spec =
     let a = c .before .before .before .before .before .before .before .before .before .before .before .before .before .before .before .before .before .args in
     let B = four (now (a .vertices)) (now (a .normals)) (now (a .uvs)) (now (a .indices)) in
     let e = sym (rw (c .before .before .before .before .before .before .before .before .name .ensures, c .before .before .before .before .before .before .before .before .before .plan .ensures) at (c .before .before .before .before .before .before .before .room .ensures)) ∙ c .before .before .before .before .before .answer2 .given .1 in
-    let r = face-ready (a .job) (now (a .corners)) (now (a .numbers)) (now (a .marks)) B (a .number) _ e in
-    (r .twelve, r .room))
+    face-ready (a .job) (now (a .corners)) (now (a .numbers)) (now (a .marks)) B (a .number) _ e)
     (λ c.
     let a = c .before .before .before .before .before .before .before .before .before .before .before .before .before .args in
     let B = four (now (a .vertices)) (now (a .normals)) (now (a .uvs)) (now (a .indices)) in

@@ -22,4 +22,4 @@ put-spec =
     (λ c.
     let a = c .before .before .before .before .before .before .before .before .before .before .before .before .before .before .before .before .before .before .before .before .before .before .args in
     (rw (c .before .before .before .before .before .before .before .before .before .before .before .before .before .hexagon-by .ensures, c .before .before .before .before .before .before .before .before .before .before .before .before .before .before .option-at .ensures) at (c .before .before .before .before .before .before .before .before .lay-hexagon .ensures .1))
-    ∙ alone-laid (planeMesh (a .job) (now (a .corners)) (now (a .numbers)) (now (a .marks))) (four (now (a .vertices)) (now (a .normals)) (now (a .uvs)) (now (a .indices))) (c .before .before .before .before .before .before .before .before .before .before .before .before .before .before .before .before .before .before .before .before .before .before .pre .1)))
+    ∙ alone-laid (planeMesh (a .job) (now (a .corners)) (now (a .numbers)) (now (a .marks))) (four (now (a .vertices)) (now (a .normals)) (now (a .uvs)) (now (a .indices))) (c .before .before .before .before .before .before .before .before .before .before .before .before .before .before .before .before .before .before .before .before .before .before .pre)))
