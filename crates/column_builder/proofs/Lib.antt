@@ -1,3 +1,5 @@
 pub mod Counts
 pub mod Determined
-pub mod Bench
+pub mod Named
+pub mod Whole
+pub mod Numbering

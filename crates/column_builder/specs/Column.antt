@@ -41,6 +41,8 @@ use Rattle.column_builder.specs.declared.Choice.{Choice}
 use Rattle.column_builder.specs.declared.Choice.the-variants as option
 use Rattle.column_builder.specs.declared.Side.{Side}
 use Rattle.column_builder.specs.declared.Column.{Column}
+use Rattle.column_builder.specs.declared.Name.{Name}
+use Rattle.column_builder.specs.declared.Name.the-variants.{OfSide, Top, Bottom}
 
 -- what is lent beside a column: its sides' ends, its cap corners, and the table of options
 pub record Lists : Type 0 where
@@ -64,10 +66,6 @@ abbrev pub delta : Column → Float
 delta job = over (job .height) (float (partsOf (job .subdivisions)))
 
 -- ---- B2: which faces, by name
-pub data Name : Type 0 where
-  OfSide : ℕ → ℕ → Name
-  Top Bottom : Name
-
 abbrev pub noSide : Side
 noSide = record { option = option.Absent }
 

@@ -1,1 +1,3 @@
 pub mod Column
+pub mod Wall
+pub mod Names

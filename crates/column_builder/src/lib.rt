@@ -1,17 +1,27 @@
 // A column, after column_builder.rs of hexx: six sides of parts one above the other, a top and a bottom.
+mod names;
+mod wall;
+
 ghost use mathlib.Core.Path.{_≡_};
-ghost use mathlib.Core.List.{[]};
+ghost use mathlib.Core.List.{[], map};
 ghost use Prim.Native.Nat.{_+_, _≤_, _<_, _^_};
 ghost use Rattle.answer.specs.Checks.{every};
+ghost use Rattle.face.specs.Lists.{chain};
 ghost use Rattle.buffers.specs.Mesh.{none, also};
-ghost use Rattle.column_builder.specs.Column.{partsOf, delta, choiceNames, allNamed, many, sideCounts, capCounts, sidesCounts, columnCounts, lists, shapeOf, placeOf, rangeOf, planned};
+ghost use Rattle.buffers.specs.Laying.{four, laidIfFits, layEach};
+ghost use Rattle.column_builder.specs.Column.{partsOf, delta, choiceNames, allNamed, many, sideCounts, capCounts, sidesCounts, columnCounts, lists, sideAt, optionFor, capHexagon, topHexagon, bottomHexagon, meshOf, sideNames, capNames, columnFaces, wholeAnswer, faceAnswer, built, faced, shapeOf, placeOf, rangeOf, planned};
 use answer::answer::Answer;
 use answer::answer::Refusal;
+use face::inset::InsetHexagon;
 use face::triangle::Counts;
 use face::triangle::IndexPlace;
 use face::triangle::VertexNumber;
 use face::vec::Vec2;
+use face::vec::Vec3;
+use placement::options::FaceOptions;
+use placement::placement::Choice3;
 use placement::placement::Placement;
+use placement::placement::Turn;
 
 pub enum Subdivisions {
     Absent,
@@ -28,6 +38,13 @@ pub struct Side {
     pub option: Choice,
 }
 
+// A face of a column: a part of a side, by the numbers of both, or a cap.
+pub enum Name {
+    OfSide(u8, u32),
+    Top,
+    Bottom,
+}
+
 pub struct Column {
     pub height: f32,
     pub subdivisions: Subdivisions,
@@ -39,7 +56,7 @@ pub struct Column {
 }
 
 // How many parts a side has: at least one.
-fn parts_of(s: Subdivisions) -> u32
+pub(crate) fn parts_of(s: Subdivisions) -> u32
     ensures { λ r. ⌜ r ≡ partsOf s ⌝ }
 {
     match s {
@@ -53,7 +70,7 @@ fn parts_of(s: Subdivisions) -> u32
     }
 }
 
-fn delta_of(job: Column) -> f32
+pub(crate) fn delta_of(job: Column) -> f32
     ensures { λ r. ⌜ r ≡ delta job ⌝ }
 {
     let s = job.subdivisions;
@@ -108,7 +125,7 @@ fn zero() -> Counts
     }
 }
 
-fn add(a: Counts, b: Counts) -> Counts
+pub(crate) fn add(a: Counts, b: Counts) -> Counts
     requires { ⌜ (a .vertices .0 + b .vertices .0 < 2 ^ 64) × (a .indices .0 + b .indices .0 < 2 ^ 64) ⌝ }
     ensures { λ r. ⌜ r ≡ also a b ⌝ }
 {
@@ -118,9 +135,10 @@ fn add(a: Counts, b: Counts) -> Counts
     }
 }
 
-fn times(n: u32, c: Counts) -> Counts
+pub(crate) fn times(n: u32, c: Counts) -> Counts
     requires { ⌜ (c .vertices .0 ≤ 8) × (c .indices .0 ≤ 32) ⌝ }
-    ensures { λ r. ⌜ r ≡ many n c ⌝ }
+    ensures product { λ r. ⌜ r ≡ many n c ⌝ }
+    ensures small { λ r. ⌜ (r .vertices .0 ≤ 137438953472) × (r .indices .0 ≤ 137438953472) ⌝ }
 {
     let k = n as usize;
     Counts {
@@ -142,7 +160,7 @@ fn side_counts(c: Choice, s: u32, numbers: &[f32], marks: &[u8]) -> Counts
     }
 }
 
-fn cap_counts(c: Choice, numbers: &[f32], marks: &[u8]) -> Counts
+pub(crate) fn cap_counts(c: Choice, numbers: &[f32], marks: &[u8]) -> Counts
     ensures { λ r. ⌜ r ≡ capCounts (now (numbers .entry)) (now (marks .entry)) c ⌝ }
 {
     match c {
@@ -155,14 +173,26 @@ fn cap_counts(c: Choice, numbers: &[f32], marks: &[u8]) -> Counts
     }
 }
 
-fn sides_counts(sides: [Side; 6], s: u32, numbers: &[f32], marks: &[u8]) -> Counts
-    ensures sum { λ r. ⌜ r ≡ sidesCounts (now (numbers .entry)) (now (marks .entry)) s sides 6 ⌝ }
-    ensures small { λ r. ⌜ (r .vertices .0 ≤ 824633720832) × (r .indices .0 ≤ 824633720832) ⌝ }
+// The option of a side; there is no seventh side.
+pub(crate) fn side_option(sides: [Side; 6], d: u8) -> Choice
+    ensures { λ r. ⌜ r ≡ sideAt sides d ⌝ }
+{
+    let i = d as usize;
+    if i < 6 {
+        let s = sides[i];
+        return s.option;
+    }
+    Choice::Absent
+}
+
+// The counts of the first n sides.
+pub(crate) fn sides_counts(sides: [Side; 6], n: u8, s: u32, numbers: &[f32], marks: &[u8]) -> Counts
+    ensures sum { λ r. ⌜ r ≡ sidesCounts (now (numbers .entry)) (now (marks .entry)) s sides n ⌝ }
+    ensures small { λ r. ⌜ (r .vertices .0 ≤ 35046933135360) × (r .indices .0 ≤ 35046933135360) ⌝ }
 {
     let mut t = zero();
-    for d in 0usize..6 {
-        let x = sides[d];
-        let o = x.option;
+    for d in 0u8..n {
+        let o = side_option(sides, d);
         t = add(t, side_counts(o, s, numbers, marks));
     }
     t
@@ -175,7 +205,7 @@ fn column_counts(job: Column, numbers: &[f32], marks: &[u8]) -> Counts
     let top = job.top;
     let bottom = job.bottom;
     let s = job.subdivisions;
-    let walls = sides_counts(sides, parts_of(s), numbers, marks);
+    let walls = sides_counts(sides, 6, parts_of(s), numbers, marks);
     let caps = add(
         cap_counts(top, numbers, marks),
         cap_counts(bottom, numbers, marks),
@@ -232,4 +262,341 @@ pub fn plan(job: Column, pairs: &[f32], corners: &[f32], numbers: &[f32], marks:
         return Answer::Refused(Refusal::Range);
     }
     Answer::Refused(Refusal::Shape)
+}
+
+// The option of a face; an absent one is never laid.
+pub(crate) fn option_for(c: Choice, numbers: &[f32], marks: &[u8]) -> FaceOptions
+    ensures { λ r. ⌜ r ≡ optionFor (now (numbers .entry)) (now (marks .entry)) c ⌝ }
+{
+    match c {
+        Choice::Absent => placement::options::option_at(numbers, marks, 255),
+        Choice::With(k) => placement::options::option_at(numbers, marks, k),
+    }
+}
+
+// A cap about (+0, +0), moved by a first offset of its own.
+fn cap_hexagon(corners: &[f32], o: FaceOptions, first: Vec3) -> InsetHexagon
+    ensures { λ r. ⌜ r ≡ capHexagon (lists [] (now (corners .entry)) [] []) o first ⌝ }
+{
+    let inset = o.inset;
+    let uv = o.uv;
+    let plain = face::face::new_hexagon(plane_builder::corners_of(corners));
+    let whole = face::inset::inset_hexagon(inset, plain);
+    let moving = Placement {
+        scale: Choice3::Absent,
+        turn: Turn::Absent,
+        offset: Choice3::With(first),
+    };
+    plane_builder::alter(uv, placement::placement::place_hexagon(moving, whole))
+}
+
+fn top_hexagon(job: Column, corners: &[f32], o: FaceOptions) -> InsetHexagon
+    ensures { λ r. ⌜ r ≡ topHexagon job (lists [] (now (corners .entry)) [] []) o ⌝ }
+{
+    let s = job.placement;
+    let up = Vec3 {
+        x: 0.0 * job.height,
+        y: job.height,
+        z: 0.0 * job.height,
+    };
+    let zero = Vec3 {
+        x: 0.0,
+        y: 0.0,
+        z: 0.0,
+    };
+    let cap = cap_hexagon(corners, o, face::vec::add3(zero, up));
+    placement::placement::place_hexagon(plane_builder::settle(s, job.position), cap)
+}
+
+fn bottom_hexagon(job: Column, corners: &[f32], o: FaceOptions) -> InsetHexagon
+    ensures { λ r. ⌜ r ≡ bottomHexagon job (lists [] (now (corners .entry)) [] []) o ⌝ }
+{
+    let s = job.placement;
+    let zero = Vec3 {
+        x: 0.0,
+        y: 0.0,
+        z: 0.0,
+    };
+    let cap = placement::placement::half_turn_hexagon(cap_hexagon(corners, o, zero));
+    placement::placement::place_hexagon(plane_builder::settle(s, job.position), cap)
+}
+
+// One face, laid at a place.
+fn put_named(
+    job: Column,
+    name: Name,
+    at: Counts,
+    pairs: &[f32],
+    corners: &[f32],
+    numbers: &[f32],
+    marks: &[u8],
+    vertices: &mut [f32],
+    normals: &mut [f32],
+    uvs: &mut [f32],
+    indices: &mut [u16],
+)
+    ensures { λ _. ⌜ four (now (vertices .exit)) (now (normals .exit)) (now (uvs .exit)) (now (indices .exit)) ≡ laidIfFits (meshOf job (lists (now (pairs .entry)) (now (corners .entry)) (now (numbers .entry)) (now (marks .entry))) name) at (four (now (vertices .entry)) (now (normals .entry)) (now (uvs .entry)) (now (indices .entry))) ⌝ }
+{
+    let sides = job.sides;
+    let top = job.top;
+    let bottom = job.bottom;
+    match name {
+        Name::OfSide(d, p) => {
+            let o = option_for(side_option(sides, d), numbers, marks);
+            let w = wall::wall_of(job, pairs, d, o);
+            wall::put_part(w, p, at, vertices, normals, uvs, indices);
+        }
+        Name::Top => {
+            let o = option_for(top, numbers, marks);
+            let inset = o.inset;
+            let h = top_hexagon(job, corners, o);
+            buffers::laying::lay_hexagon(inset, h, at, vertices, normals, uvs, indices);
+        }
+        Name::Bottom => {
+            let o = option_for(bottom, numbers, marks);
+            let inset = o.inset;
+            let h = bottom_hexagon(job, corners, o);
+            buffers::laying::lay_hexagon(inset, h, at, vertices, normals, uvs, indices);
+        }
+    }
+}
+
+// The parts of a side, or nothing where there is none.
+fn put_side(
+    job: Column,
+    d: u8,
+    at: Counts,
+    pairs: &[f32],
+    numbers: &[f32],
+    marks: &[u8],
+    vertices: &mut [f32],
+    normals: &mut [f32],
+    uvs: &mut [f32],
+    indices: &mut [u16],
+)
+    requires { ⌜ (at .vertices .0 ≤ 35046933135360) × (at .indices .0 ≤ 35046933135360) ⌝ }
+    ensures { λ _. ⌜ four (now (vertices .exit)) (now (normals .exit)) (now (uvs .exit)) (now (indices .exit)) ≡ layEach (map (meshOf job (lists (now (pairs .entry)) [] (now (numbers .entry)) (now (marks .entry)))) (sideNames job d)) at (four (now (vertices .entry)) (now (normals .entry)) (now (uvs .entry)) (now (indices .entry))) ⌝ }
+{
+    let sides = job.sides;
+    let s = job.subdivisions;
+    let choice = side_option(sides, d);
+    match choice {
+        Choice::Absent => {}
+        Choice::With(k) => {
+            let o = placement::options::option_at(numbers, marks, k);
+            let w = wall::wall_of(job, pairs, d, o);
+            wall::put_parts(w, parts_of(s), at, vertices, normals, uvs, indices);
+        }
+    }
+}
+
+// All the sides from the first place on, and the place past them.
+fn put_sides(
+    job: Column,
+    pairs: &[f32],
+    numbers: &[f32],
+    marks: &[u8],
+    vertices: &mut [f32],
+    normals: &mut [f32],
+    uvs: &mut [f32],
+    indices: &mut [u16],
+) -> Counts
+    ensures place { λ r. ⌜ r ≡ sidesCounts (now (numbers .entry)) (now (marks .entry)) (partsOf (job .subdivisions)) (job .sides) 6 ⌝ }
+    ensures small { λ r. ⌜ (r .vertices .0 ≤ 35046933135360) × (r .indices .0 ≤ 35046933135360) ⌝ }
+    ensures buffers { λ _. ⌜ four (now (vertices .exit)) (now (normals .exit)) (now (uvs .exit)) (now (indices .exit)) ≡ layEach (map (meshOf job (lists (now (pairs .entry)) [] (now (numbers .entry)) (now (marks .entry)))) (chain (sideNames job) 6)) none (four (now (vertices .entry)) (now (normals .entry)) (now (uvs .entry)) (now (indices .entry))) ⌝ }
+{
+    let sides = job.sides;
+    let s = job.subdivisions;
+    let parts = parts_of(s);
+    let mut place = zero();
+    for d in 0u8..6 {
+        put_side(
+            job,
+            d,
+            place,
+            pairs,
+            numbers,
+            marks,
+            vertices,
+            normals,
+            uvs,
+            indices,
+        );
+        let o = side_option(sides, d);
+        place = add(place, side_counts(o, parts, numbers, marks));
+    }
+    place
+}
+
+// A cap, or nothing where it is absent.
+fn put_cap(
+    job: Column,
+    choice: Choice,
+    name: Name,
+    at: Counts,
+    pairs: &[f32],
+    corners: &[f32],
+    numbers: &[f32],
+    marks: &[u8],
+    vertices: &mut [f32],
+    normals: &mut [f32],
+    uvs: &mut [f32],
+    indices: &mut [u16],
+)
+    ensures { λ _. ⌜ four (now (vertices .exit)) (now (normals .exit)) (now (uvs .exit)) (now (indices .exit)) ≡ layEach (map (meshOf job (lists (now (pairs .entry)) (now (corners .entry)) (now (numbers .entry)) (now (marks .entry)))) (capNames choice name)) at (four (now (vertices .entry)) (now (normals .entry)) (now (uvs .entry)) (now (indices .entry))) ⌝ }
+{
+    match choice {
+        Choice::Absent => {}
+        Choice::With(_) => {
+            put_named(
+                job,
+                name,
+                at,
+                pairs,
+                corners,
+                numbers,
+                marks,
+                vertices,
+                normals,
+                uvs,
+                indices,
+            );
+        }
+    }
+}
+
+fn put_all(
+    job: Column,
+    pairs: &[f32],
+    corners: &[f32],
+    numbers: &[f32],
+    marks: &[u8],
+    vertices: &mut [f32],
+    normals: &mut [f32],
+    uvs: &mut [f32],
+    indices: &mut [u16],
+)
+    ensures { λ _. ⌜ four (now (vertices .exit)) (now (normals .exit)) (now (uvs .exit)) (now (indices .exit)) ≡ layEach (columnFaces job (lists (now (pairs .entry)) (now (corners .entry)) (now (numbers .entry)) (now (marks .entry)))) none (four (now (vertices .entry)) (now (normals .entry)) (now (uvs .entry)) (now (indices .entry))) ⌝ }
+{
+    let top = job.top;
+    let bottom = job.bottom;
+    let walls = put_sides(job, pairs, numbers, marks, vertices, normals, uvs, indices);
+    put_cap(
+        job,
+        top,
+        Name::Top,
+        walls,
+        pairs,
+        corners,
+        numbers,
+        marks,
+        vertices,
+        normals,
+        uvs,
+        indices,
+    );
+    let last = add(walls, cap_counts(top, numbers, marks));
+    put_cap(
+        job,
+        bottom,
+        Name::Bottom,
+        last,
+        pairs,
+        corners,
+        numbers,
+        marks,
+        vertices,
+        normals,
+        uvs,
+        indices,
+    );
+}
+
+pub fn build(
+    job: Column,
+    pairs: &[f32],
+    corners: &[f32],
+    numbers: &[f32],
+    marks: &[u8],
+    vertices: &mut [f32],
+    normals: &mut [f32],
+    uvs: &mut [f32],
+    indices: &mut [u16],
+) -> Answer
+    ensures answer { λ r. ⌜ r ≡ wholeAnswer job (lists (now (pairs .entry)) (now (corners .entry)) (now (numbers .entry)) (now (marks .entry))) (four (now (vertices .entry)) (now (normals .entry)) (now (uvs .entry)) (now (indices .entry))) ⌝ }
+    ensures buffers { λ _. ⌜ four (now (vertices .exit)) (now (normals .exit)) (now (uvs .exit)) (now (indices .exit)) ≡ built job (lists (now (pairs .entry)) (now (corners .entry)) (now (numbers .entry)) (now (marks .entry))) (four (now (vertices .entry)) (now (normals .entry)) (now (uvs .entry)) (now (indices .entry))) ⌝ }
+{
+    let answer = answer::answer::room(
+        plan(job, pairs, corners, numbers, marks),
+        vertices.len(),
+        normals.len(),
+        uvs.len(),
+        indices.len(),
+    );
+    match answer {
+        Answer::Refused(why) => Answer::Refused(why),
+        Answer::Done(counts) => {
+            put_all(
+                job,
+                pairs,
+                corners,
+                numbers,
+                marks,
+                vertices,
+                normals,
+                uvs,
+                indices,
+            );
+            Answer::Done(counts)
+        }
+    }
+}
+
+pub fn face(
+    job: Column,
+    pairs: &[f32],
+    corners: &[f32],
+    numbers: &[f32],
+    marks: &[u8],
+    number: usize,
+    vertices: &mut [f32],
+    normals: &mut [f32],
+    uvs: &mut [f32],
+    indices: &mut [u16],
+) -> Answer
+    ensures answer { λ r. ⌜ r ≡ faceAnswer job (lists (now (pairs .entry)) (now (corners .entry)) (now (numbers .entry)) (now (marks .entry))) number (four (now (vertices .entry)) (now (normals .entry)) (now (uvs .entry)) (now (indices .entry))) ⌝ }
+    ensures buffers { λ _. ⌜ four (now (vertices .exit)) (now (normals .exit)) (now (uvs .exit)) (now (indices .exit)) ≡ faced job (lists (now (pairs .entry)) (now (corners .entry)) (now (numbers .entry)) (now (marks .entry))) number (four (now (vertices .entry)) (now (normals .entry)) (now (uvs .entry)) (now (indices .entry))) ⌝ }
+{
+    let answer = answer::answer::room(
+        answer::answer::name(
+            plan(job, pairs, corners, numbers, marks),
+            number,
+            names::face_count(job),
+        ),
+        vertices.len(),
+        normals.len(),
+        uvs.len(),
+        indices.len(),
+    );
+    match answer {
+        Answer::Refused(why) => Answer::Refused(why),
+        Answer::Done(counts) => {
+            let name = names::name_of(job, number);
+            let at = names::start_of(job, name, numbers, marks);
+            put_named(
+                job,
+                name,
+                at,
+                pairs,
+                corners,
+                numbers,
+                marks,
+                vertices,
+                normals,
+                uvs,
+                indices,
+            );
+            Answer::Done(counts)
+        }
+    }
 }

@@ -16,4 +16,4 @@ side-counts-spec =
     (λ c κs. search needs)
     (λ c κs. rw (c .quad-counts .ensures) (quad-small (c .before .option-at .result .inset)))
     (λ c. rw (c .before .enum-told .given .1) (c .zero .ensures))
-    (λ c. rw (c .before .before .before .before .c .given .1, ← c .before .before .option-at .ensures, ← c .before .quad-counts .ensures) (c .times .ensures)))
+    (λ c. rw (c .before .before .before .before .c .given .1, ← c .before .before .option-at .ensures, ← c .before .quad-counts .ensures) (c .times .ensures .0)))

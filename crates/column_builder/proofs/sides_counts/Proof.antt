@@ -11,10 +11,10 @@ use Rattle.column_builder.proofs.sides_counts.Statement.{statement}
 use Rattle.column_builder.proofs.sides_counts.Tie as tie
 
 abbrev Inv : tie.InvT-loop
-Inv s numbers marks sides t₀ d₀ t d = (d ≤ 6) × (t ≡ sidesCounts numbers marks s sides d)
+Inv sides n s numbers marks t₀ d₀ t d = (d ≤ n) × (t ≡ sidesCounts numbers marks s sides d)
 
 abbrev μ : tie.MeasureT-loop
-μ s numbers marks sides t₀ d₀ t d = 6 - d
+μ sides n s numbers marks t₀ d₀ t d = n - d
 
 pub sides-counts-spec : {M : Type 1} → statement M
 sides-counts-spec =
@@ -24,26 +24,26 @@ sides-counts-spec =
     μ
     (λ c κs. search needs)
     (λ c. (omega arith, c .zero .ensures))
-    (λ c. search needs)
-    (λ c. search needs)
+    (λ c κs. search needs)
     (λ c κs. search needs)
     (λ c κs.
     let a = c .before .before .before .before .before .before .before .args in
+    let d = c .before .before .before .loop .d in
     let h : a .s ≤ 4294967295 = omega (arith, c .before .before .before .before .before .before .before .fits .s) in
     let i = c .before .before .before .loop .inv in
-    let m = sides-most (now (a .numbers)) (now (a .marks)) (a .s) (a .t1) h (c .before .before .before .loop .d) in
-    let q = side-most (now (a .numbers)) (now (a .marks)) (a .s) (sideAt (a .t1) (c .before .before .before .loop .d)) h in
-    rw (i .1, c .side-counts .ensures) (omega (arith, m .0, q .0, i .0), omega (arith, m .1, q .1, i .0)))
+    let m = sides-most (now (a .numbers)) (now (a .marks)) (a .s) (a .sides) h d in
+    let q = side-most (now (a .numbers)) (now (a .marks)) (a .s) (sideAt (a .sides) d) h in
+    rw (i .1, c .side-counts .ensures, c .before .side-option .ensures) (omega (arith, m .0, q .0, i .0, c .before .before .before .before .before .before .before .fits .n), omega (arith, m .1, q .1, i .0, c .before .before .before .before .before .before .before .fits .n)))
     (λ c. search needs)
     (λ c. search needs)
     (λ c.
     let i = c .before .before .before .before .loop .inv in
-    (search needs, rw (add-one (c .before .before .before .before .loop .d)) (rw (i .1, c .before .side-counts .ensures) at (c .add .ensures))))
+    (search needs, rw (add-one (c .before .before .before .before .loop .d)) (rw (i .1, c .before .side-counts .ensures, c .before .before .side-option .ensures) at (c .add .ensures))))
     (λ c.
     let a = c .before .before .before .before .before .args in
     let h : a .s ≤ 4294967295 = omega (arith, c .before .before .before .before .before .fits .s) in
     let i = c .before .loop .inv in
-    let e : c .before .loop .d ≡ 6 = omega (arith, i .0, c .loop-test .left) in
-    let r = i .1 ∙ ap (sidesCounts (now (a .numbers)) (now (a .marks)) (a .s) (a .t1)) e in
-    let m = sides-most (now (a .numbers)) (now (a .marks)) (a .s) (a .t1) h 6 in
-    (r, rw r (omega (arith, m .0), omega (arith, m .1)))))
+    let e : c .before .loop .d ≡ a .n = omega (arith, i .0, c .loop-test .left) in
+    let r = i .1 ∙ ap (sidesCounts (now (a .numbers)) (now (a .marks)) (a .s) (a .sides)) e in
+    let m = sides-most (now (a .numbers)) (now (a .marks)) (a .s) (a .sides) h (a .n) in
+    (r, rw r (omega (arith, m .0, c .before .before .before .before .before .fits .n), omega (arith, m .1, c .before .before .before .before .before .fits .n)))))

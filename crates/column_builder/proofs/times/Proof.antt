@@ -3,6 +3,7 @@ use borrow.Author.Needs.{needs}
 use Prim.Native.Nat.{_*_, _≤_}
 use native.Mathlib.Nat.{mul-le-mul}
 use native.Mathlib.Omega.{arith}
+use mathlib.Core.Path.{refl}
 use Rattle.column_builder.proofs.times.Statement.{statement}
 use Rattle.column_builder.proofs.times.Tie as tie
 
@@ -18,4 +19,9 @@ times-spec =
     let a = c .before .before .args in
     let h : a .n * a .c .indices .0 ≤ 4294967295 * 32 = mul-le-mul {n₂ = 4294967295} (omega (arith, c .before .before .fits .n)) (c .before .before .pre .1) in
     omega (arith, h))
-    (λ c. search needs))
+    (λ c.
+    let a = c .before .before .args in
+    let h : a .n ≤ 4294967295 = omega (arith, c .before .before .fits .n) in
+    let v : a .n * a .c .vertices .0 ≤ 4294967295 * 8 = mul-le-mul h (c .before .before .pre .0) in
+    let i : a .n * a .c .indices .0 ≤ 4294967295 * 32 = mul-le-mul h (c .before .before .pre .1) in
+    (refl, (omega (arith, v), omega (arith, i)))))
