@@ -1,4 +1,4 @@
-//! What both recorders are asked for.
+//! What every recorder is asked for.
 
 use std::{env, io};
 

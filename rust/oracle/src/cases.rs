@@ -51,10 +51,11 @@ pub fn drawn(random: &mut Random, count: usize) -> Cases {
 }
 
 /// Both orders of texture and inset.
-const WHENS: [When; 2] = [When::Before, When::After];
+pub(crate) const WHENS: [When; 2] = [When::Before, When::After];
 
 /// Both kinds of inset.
-const MODES: [InsetScaleMode; 2] = [InsetScaleMode::Centroid, InsetScaleMode::SmallestEdge];
+pub(crate) const MODES: [InsetScaleMode; 2] =
+    [InsetScaleMode::Centroid, InsetScaleMode::SmallestEdge];
 
 /// Texture options, each with a point to alter.
 fn points() -> Vec<(UVOptions, Vec2)> {
@@ -135,7 +136,7 @@ pub(crate) fn fill<T>(mut cases: Vec<T>, count: usize, mut draw: impl FnMut() ->
 
 /// Every inset with each of the scales and both orders; the texture is the
 /// default in every other one.
-fn insets() -> Vec<(FaceOptions, When)> {
+pub(crate) fn insets() -> Vec<(FaceOptions, When)> {
     let textures = textures();
     let mut all = Vec::new();
     for scale in SCALES {
@@ -155,7 +156,7 @@ fn insets() -> Vec<(FaceOptions, When)> {
 
 /// No inset and one of each kind, with scales and orders that change from
 /// shape to shape.
-fn three_ways(at: usize) -> [(FaceOptions, When); 3] {
+pub(crate) fn three_ways(at: usize) -> [(FaceOptions, When); 3] {
     let textures = textures();
     let uv = textures[(at % 3 / 2) * (at % textures.len())];
     let keep = at % 4 < 2;
@@ -169,7 +170,7 @@ fn three_ways(at: usize) -> [(FaceOptions, When); 3] {
     ]
 }
 
-fn inset(mode: InsetScaleMode, scale: f32, keep_inner_face: bool) -> InsetOptions {
+pub(crate) fn inset(mode: InsetScaleMode, scale: f32, keep_inner_face: bool) -> InsetOptions {
     InsetOptions {
         keep_inner_face,
         scale,
@@ -177,7 +178,7 @@ fn inset(mode: InsetScaleMode, scale: f32, keep_inner_face: bool) -> InsetOption
     }
 }
 
-fn options(uv: UVOptions, insetting: Option<InsetOptions>) -> FaceOptions {
+pub(crate) fn options(uv: UVOptions, insetting: Option<InsetOptions>) -> FaceOptions {
     FaceOptions { uv, insetting }
 }
 
@@ -215,6 +216,11 @@ fn drawn_uv(random: &mut Random) -> Vec2 {
 /// Texture options of drawn numbers, mostly ordinary ones.
 pub fn drawn_texture(random: &mut Random) -> UVOptions {
     let wild = random.once_in(4);
+    drawn_texture_of(random, wild)
+}
+
+/// Texture options of drawn numbers, of any class or ordinary ones.
+pub(crate) fn drawn_texture_of(random: &mut Random, wild: bool) -> UVOptions {
     let mut draw = || match wild {
         true => number(random),
         false => within(random, 2.0),

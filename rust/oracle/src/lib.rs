@@ -3,16 +3,31 @@
 
 pub mod answers;
 pub mod arguments;
+#[cfg(feature = "archive")]
+pub mod buffers;
+pub mod builder_cases;
+pub mod builder_record;
+pub mod builders;
 pub mod cases;
+#[cfg(feature = "archive")]
+pub mod compare;
+#[cfg(feature = "archive")]
+pub mod limits;
 pub mod line;
 pub mod mesh_cases;
 pub mod mesh_record;
 pub mod numbers;
+#[cfg(feature = "archive")]
+pub mod ours;
 pub mod random;
 pub mod record;
+#[cfg(feature = "archive")]
+pub mod safe;
 pub mod shapes;
 pub mod steps;
 pub mod storage;
+#[cfg(feature = "archive")]
+pub mod stored;
 mod table;
 
 include!(concat!(env!("OUT_DIR"), "/mesh.rs"));

@@ -22,15 +22,25 @@ pub(crate) fn part<T>(
     cases: &[T],
     fill: impl Fn(&mut Line, &T),
 ) -> io::Result<()> {
-    writeln!(out, "{name:<9}{:08}", cases.len())?;
+    named(out, name, cases.len())?;
     for case in cases {
         let mut line = Line::default();
         fill(&mut line, case);
-        assert_eq!(line.0.len(), cells, "a line of {name} has another length");
-        let text: Vec<String> = line.0.iter().map(|cell| format!("{cell:08x}")).collect();
-        writeln!(out, "{}", text.join(" "))?;
+        write_line(out, &line, cells)?;
     }
     Ok(())
+}
+
+/// Writes a part's name and count.
+pub(crate) fn named(out: &mut impl Write, name: &str, count: usize) -> io::Result<()> {
+    writeln!(out, "{name:<9}{count:08}")
+}
+
+/// Writes a line, which must have so many cells.
+pub(crate) fn write_line(out: &mut impl Write, line: &Line, cells: usize) -> io::Result<()> {
+    assert_eq!(line.0.len(), cells, "a line has another length");
+    let text: Vec<String> = line.0.iter().map(|cell| format!("{cell:08x}")).collect();
+    writeln!(out, "{}", text.join(" "))
 }
 
 /// The cells of a line.
@@ -42,7 +52,7 @@ impl Line {
         self.0.push(word);
     }
 
-    fn count(&mut self, count: usize) {
+    pub(crate) fn count(&mut self, count: usize) {
         self.word(u32::try_from(count).expect("a mesh here is small"));
     }
 
@@ -71,9 +81,13 @@ impl Line {
 
     /// Both counts and four lists, each filled up with zeros to its room.
     pub(crate) fn mesh(&mut self, mesh: &MeshInfo, vertices: usize, indices: usize) {
+        self.counts(mesh);
+        self.lists(mesh, vertices, indices);
+    }
+
+    pub(crate) fn counts(&mut self, mesh: &MeshInfo) {
         self.count(mesh.vertices.len());
         self.count(mesh.indices.len());
-        self.lists(mesh, vertices, indices);
     }
 
     /// Four lists, each filled up with zeros to its room.

@@ -1,11 +1,11 @@
 //! The cases of stored meshes, merges and cheap columns: lists that are gone
 //! through in turn, and then drawn ones up to a fixed count.
 
-use crate::MeshInfo;
 use crate::cases::{drawn_hexagon, fill};
 use crate::numbers::{BEYOND, ENDS, LEAST, LIMIT, SUBNORMAL, number, point, stored, within};
 use crate::random::Random;
 use crate::shapes::{odd_hexagons, regular_hexagons};
+use crate::{Hex, HexLayout, MeshInfo, Place};
 use glam::{Vec2, Vec3, vec2, vec3};
 
 /// How many cases of each kind there are.
@@ -32,16 +32,50 @@ pub const INDICES: usize = 8;
 pub const SUMMED: usize = 12;
 
 /// Two meshes, of which the first is put behind the second.
+#[derive(Debug, Clone)]
 pub struct Merge {
     pub source: MeshInfo,
     pub target: MeshInfo,
 }
 
 /// What makes a cheap column.
+#[derive(Debug, Clone)]
 pub struct Column {
     pub corners: [Vec2; 6],
     pub centre: Vec2,
     pub height: f32,
+}
+
+impl Column {
+    /// hexx's own mesh.
+    #[must_use]
+    pub fn hexx(&self) -> MeshInfo {
+        let layout = self.layout();
+        MeshInfo::cheap_hexagonal_column(&layout, Hex::ZERO, self.height)
+    }
+
+    /// A layout whose zero hex is this one.
+    #[must_use]
+    pub fn layout(&self) -> HexLayout {
+        HexLayout {
+            zero: Place {
+                world: self.centre,
+                corners: self.corners,
+                ..Place::default()
+            },
+            ..HexLayout::default()
+        }
+    }
+}
+
+impl Merge {
+    /// hexx's own mesh.
+    #[must_use]
+    pub fn hexx(&self) -> MeshInfo {
+        let mut merged = self.target.clone();
+        merged.merge_with(self.source.clone());
+        merged
+    }
 }
 
 /// Cases of each kind.
@@ -172,7 +206,8 @@ fn moves(seed: u64, count: usize) -> Vec<(Vec3, MeshInfo)> {
     fill(cases, count, || drawn_move(&mut random))
 }
 
-fn drawn_move(random: &mut Random) -> (Vec3, MeshInfo) {
+/// A parameter of three numbers and a mesh.
+pub fn drawn_move(random: &mut Random) -> (Vec3, MeshInfo) {
     let by = vec3(number(random), number(random), number(random));
     (by, drawn_mesh(random, VERTICES))
 }
@@ -193,7 +228,8 @@ fn uv_scales() -> Vec<(Vec2, MeshInfo)> {
     fill(cases, UV_SCALES, || drawn_uv_scale(&mut random))
 }
 
-fn drawn_uv_scale(random: &mut Random) -> (Vec2, MeshInfo) {
+/// A parameter of two numbers and a mesh.
+pub fn drawn_uv_scale(random: &mut Random) -> (Vec2, MeshInfo) {
     (point(random), drawn_mesh(random, VERTICES))
 }
 
@@ -224,7 +260,8 @@ fn summed(numbers: &[f32]) -> MeshInfo {
     }
 }
 
-fn drawn_mean(random: &mut Random) -> MeshInfo {
+/// A mesh of some vertices.
+pub fn drawn_mean(random: &mut Random) -> MeshInfo {
     let drawn = drawn_mesh(random, SUMMED);
     match drawn.vertices.is_empty() {
         // Ours refuses it, and hexx divides by 0.
@@ -256,7 +293,8 @@ fn merges() -> Vec<Merge> {
     fill(cases, MERGES, || drawn_merge(&mut random))
 }
 
-fn drawn_merge(random: &mut Random) -> Merge {
+/// Two meshes, the source with lawful indices.
+pub fn drawn_merge(random: &mut Random) -> Merge {
     let mut source = drawn_mesh(random, VERTICES);
     source.indices = lawful_indices(random, source.vertices.len());
     Merge {
@@ -289,7 +327,8 @@ fn columns() -> Vec<Column> {
     fill(cases, COLUMNS, || drawn_column(&mut random))
 }
 
-fn drawn_column(random: &mut Random) -> Column {
+/// A cheap column.
+pub fn drawn_column(random: &mut Random) -> Column {
     let centre = match random.once_in(2) {
         true => Vec2::ZERO,
         false => point(random),

@@ -1,9 +1,9 @@
 //! Writes cases and hexx's answers for stored meshes, merges and cheap columns
 //! as cells.
 
+use crate::MeshInfo;
 use crate::line::{Line, part};
 use crate::mesh_cases::{Cases, Column, INDICES, Merge, SUMMED, VERTICES};
-use crate::{Hex, HexLayout, MeshInfo, Place};
 use std::io::{self, Write};
 
 /// The cells of a mesh with room for so many vertices and indices.
@@ -67,9 +67,7 @@ impl Line {
     fn merge(&mut self, case: &Merge) {
         self.small(&case.source);
         self.small(&case.target);
-        let mut merged = case.target.clone();
-        merged.merge_with(case.source.clone());
-        self.mesh(&merged, 2 * VERTICES, 2 * INDICES);
+        self.mesh(&case.hexx(), 2 * VERTICES, 2 * INDICES);
     }
 
     fn column(&mut self, case: &Column) {
@@ -78,15 +76,7 @@ impl Line {
         }
         self.given(&case.centre.to_array());
         self.given(&[case.height]);
-        let layout = HexLayout {
-            zero: Place {
-                world: case.centre,
-                corners: case.corners,
-                ..Place::default()
-            },
-            ..HexLayout::default()
-        };
-        let mesh = MeshInfo::cheap_hexagonal_column(&layout, Hex::ZERO, case.height);
+        let mesh = case.hexx();
         assert!(mesh.vertices.len() == 12 && mesh.indices.len() == 48);
         self.lists(&mesh, 12, 48);
     }

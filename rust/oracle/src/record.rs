@@ -43,7 +43,7 @@ impl Line {
         self.given(&options.rect.max.to_array());
     }
 
-    fn given_options(&mut self, options: &FaceOptions, when: When) {
+    pub(crate) fn given_options(&mut self, options: &FaceOptions) {
         self.given_texture(&options.uv);
         match options.insetting {
             None => [0; 3].into_iter().for_each(|cell| self.word(cell)),
@@ -56,7 +56,6 @@ impl Line {
                 self.mark(inset.keep_inner_face);
             }
         }
-        self.mark(when == When::After);
     }
 
     fn given_quad(&mut self, case: &QuadCase) {
@@ -66,13 +65,15 @@ impl Line {
         self.given(&case.heights);
         self.mark(case.range.is_some());
         self.given(&case.range.unwrap_or_default());
-        self.given_options(&case.options, case.when);
+        self.given_options(&case.options);
+        self.mark(case.when == When::After);
     }
 
     fn given_hexagon(&mut self, case: &HexagonCase) {
         for corner in case.corners {
             self.given(&corner.to_array());
         }
-        self.given_options(&case.options, case.when);
+        self.given_options(&case.options);
+        self.mark(case.when == When::After);
     }
 }

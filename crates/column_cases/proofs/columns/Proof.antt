@@ -1,0 +1,25 @@
+-- `column_cases::columns` is safe and ends: `number` counts up to the number of columns. Assumes nothing.
+use Prim.Native.Nat.{_-_}
+use borrow.Author.Needs.{needs}
+use Rattle.column_cases.proofs.columns.Statement.{statement}
+use Rattle.column_cases.proofs.columns.Tie as tie
+
+abbrev Inv-loop : tie.InvT-loop
+Inv-loop n out₀ number₀ out number = Unit {0}
+
+abbrev μ-loop : tie.MeasureT-loop
+μ-loop n out₀ number₀ out number = n - number
+
+pub columns-spec : {M : Type 1} → statement M
+columns-spec =
+    tie.close
+    (tie.spec Inv-loop
+    μ-loop
+    (λ c κs. search needs)
+    (λ c. search needs)
+    (λ c κs. search needs)
+    (λ c. search needs)
+    (λ c. search needs)
+    (λ c. search needs)
+    (λ c. search needs)
+    (λ c. search needs))

@@ -1,0 +1,19 @@
+-- `column_cases::replay::tabled` is safe: no list is lent longer than it is. Assumes nothing.
+use native.Mathlib.Omega.{arith}
+use lib.ListN.{length-take}
+use borrow.Author.Needs.{needs}
+use Rattle.column_cases.proofs.replay.tabled.Statement.{statement}
+use Rattle.column_cases.proofs.replay.tabled.Tie as tie
+
+pub tabled-spec : {M : Type 1} → statement M
+tabled-spec =
+    tie.close
+    (tie.spec (λ c. search needs)
+    (λ c. search needs)
+    (λ c. search needs)
+    (λ c. search needs)
+    (λ c. simp length-take (omega arith))
+    (λ c. search needs)
+    (λ c. simp length-take (omega arith))
+    (λ c κs. search needs)
+    (λ c. search needs))

@@ -1,0 +1,18 @@
+-- `mesh_record::lists::with_line` is safe: the part of the buffer that is read into is as long as the line. Assumes nothing.
+use native.Mathlib.Omega.{arith}
+use lib.ListN.{length-take}
+use borrow.Author.Needs.{needs}
+use Rattle.mesh_record.proofs.lists.with_line.Statement.{statement}
+use Rattle.mesh_record.proofs.lists.with_line.Tie as tie
+
+pub with-line-spec : {M : Type 1} → statement M
+with-line-spec =
+    tie.close
+    (tie.spec (λ c. search needs)
+    (λ c. simp length-take (omega arith))
+    (λ c κs. search needs)
+    (λ c κs. search needs)
+    (λ c. search needs)
+    (λ c. search needs)
+    (λ c κs. search needs)
+    (λ c. search needs))

@@ -1,0 +1,345 @@
+//! Times hexx and our own code on the same jobs, in turns, and the copying of
+//! the same bytes beside them.
+
+use glam::{Vec2, vec2};
+use hosirekar::Job as _;
+use oracle::answers::{QuadCase, When, quad};
+use oracle::buffers::{Buffers, Counts};
+use oracle::builder_cases::ends_of;
+use oracle::builders::{Choice, Column, Plane, Standing};
+use oracle::mesh_cases::Column as CheapColumn;
+use oracle::numbers::within;
+use oracle::ours::{Call, Job};
+use oracle::random::Random;
+use oracle::safe::Safe;
+use oracle::shapes::stretched;
+use oracle::{FaceOptions, Hex, InsetOptions, InsetScaleMode, MeshInfo, UVOptions};
+use std::hint::black_box;
+use std::time::Instant;
+
+/// How many small jobs make a set.
+const SET: usize = 1_000;
+
+/// How often each side is timed; the best counts.
+const READINGS: usize = 15;
+
+/// How long a reading of hexx takes at least, in seconds.
+const LEAST: f64 = 0.01;
+
+/// What is done to every face of a job.
+#[derive(Clone, Copy)]
+struct Way {
+    name: &'static str,
+    options: Option<FaceOptions>,
+    /// The parts of a side with which a great column is nearly full.
+    parts: u32,
+}
+
+fn ways() -> [Way; 4] {
+    let inset = |mode| InsetOptions {
+        keep_inner_face: true,
+        scale: 0.2,
+        mode,
+    };
+    let way = |uv, insetting| Some(FaceOptions { uv, insetting });
+    let rectangle = UVOptions::new().with_rect(vec2(0.25, 0.1), vec2(0.5, 0.7));
+    let plain = UVOptions::new();
+    let named = |name, options, parts| Way {
+        name,
+        options,
+        parts,
+    };
+    [
+        named("default", None, 2700),
+        named("rectangle", way(rectangle, None), 2700),
+        named(
+            "centroid",
+            way(plain, Some(inset(InsetScaleMode::Centroid))),
+            1350,
+        ),
+        named(
+            "edge",
+            way(plain, Some(inset(InsetScaleMode::SmallestEdge))),
+            1350,
+        ),
+    ]
+}
+
+impl Way {
+    fn table(self) -> Vec<FaceOptions> {
+        self.options.into_iter().collect()
+    }
+
+    fn choice(self) -> Choice {
+        self.options.map_or(Choice::Default, |_| Choice::Entry(0))
+    }
+
+    fn face(self) -> FaceOptions {
+        self.options.unwrap_or_default()
+    }
+}
+
+fn hexagon(random: &mut Random) -> [Vec2; 6] {
+    let by = vec2(1.0 + within(random, 0.5), 1.0 + within(random, 0.5));
+    stretched(random.once_in(2), by)
+}
+
+fn standing(random: &mut Random) -> Standing {
+    Standing {
+        position: vec2(within(random, 100.0), within(random, 100.0)),
+        centred: false,
+        scale: None,
+        turn: None,
+        offset: None,
+    }
+}
+
+fn column(way: Way, subdivisions: Option<u32>, random: &mut Random) -> Column {
+    let corners = hexagon(random);
+    Column {
+        ends: ends_of(corners),
+        corners,
+        height: 1.0 + within(random, 0.9),
+        subdivisions,
+        sides: [way.choice(); 6],
+        top: way.choice(),
+        bottom: Choice::Absent,
+        options: way.table(),
+        standing: standing(random),
+    }
+}
+
+fn plane(way: Way, random: &mut Random) -> Plane {
+    Plane {
+        corners: hexagon(random),
+        choice: way.choice(),
+        options: way.table(),
+        standing: standing(random),
+    }
+}
+
+fn cheap(random: &mut Random) -> CheapColumn {
+    let centre = standing(random).position;
+    CheapColumn {
+        corners: hexagon(random).map(|corner| corner + centre),
+        centre,
+        height: 1.0 + within(random, 0.9),
+    }
+}
+
+/// The sides of a comparison, each a pass over the set.
+struct Sides<'s> {
+    /// Vertices that a pass makes.
+    vertices: usize,
+    hexx: &'s mut dyn FnMut(),
+    /// Into lent lists that are not cleared.
+    lent: &'s mut dyn FnMut(),
+    /// The safe crate's own build: a plan, and new cleared lists.
+    new: Option<&'s mut dyn FnMut()>,
+    copy: &'s mut dyn FnMut(),
+}
+
+fn seconds(pass: &mut dyn FnMut(), passes: usize) -> f64 {
+    let began = Instant::now();
+    (0..passes).for_each(|_| pass());
+    began.elapsed().as_secs_f64() / passes as f64
+}
+
+impl Sides<'_> {
+    /// Times all sides in turns and writes a line.
+    fn tell(self, job: &str, way: &str) {
+        let name = format!("{job}, {way}");
+        if !std::env::args()
+            .nth(1)
+            .is_none_or(|asked| name.contains(&asked))
+        {
+            return;
+        }
+        let once = seconds(self.hexx, 3);
+        let passes = (LEAST / once).ceil() as usize;
+        let mut best = [f64::INFINITY; 4];
+        let mut new = self.new;
+        for _ in 0..READINGS {
+            best[0] = best[0].min(seconds(self.hexx, passes));
+            best[1] = best[1].min(seconds(self.lent, passes));
+            if let Some(new) = &mut new {
+                best[2] = best[2].min(seconds(new, passes));
+            }
+            best[3] = best[3].min(seconds(self.copy, passes));
+        }
+        let [hexx, lent, new, copy] = best.map(|time| time * 1e9 / self.vertices as f64);
+        let new = match new.is_finite() {
+            true => format!("{new:.2} | {:.2}", new / hexx),
+            false => "- | -".to_string(),
+        };
+        println!(
+            "| {job} | {way} | {hexx:.2} | {lent:.2} | {:.2} | {new} | {copy:.2} |",
+            lent / hexx
+        );
+    }
+}
+
+/// Copies the lists of one mesh to another.
+fn copy(from: &Buffers, to: &mut Buffers) {
+    to.vertices.copy_from_slice(&from.vertices);
+    to.normals.copy_from_slice(&from.normals);
+    to.uvs.copy_from_slice(&from.uvs);
+    to.indices.copy_from_slice(&from.indices);
+    black_box(to);
+}
+
+/// Whole builds of some jobs of the same counts; `hexx` builds the numbered one.
+fn whole<J: Job>(name: &str, way: &str, jobs: &[J], mut hexx: impl FnMut(usize) -> MeshInfo)
+where
+    J::Job: hosirekar::Job,
+{
+    let counts = Counts::of(&hexx(0));
+    let calls: Vec<Call> = jobs.iter().map(Job::call).collect();
+    let safe: Vec<J::Job> = jobs.iter().map(Safe::safe).collect();
+    let mut lent = Buffers::marked(counts.lengths());
+    let from = Buffers::marked(counts.lengths());
+    let mut to = from.clone();
+    let sides = Sides {
+        vertices: counts.vertices * jobs.len(),
+        hexx: &mut || {
+            for job in 0..jobs.len() {
+                black_box(hexx(job));
+            }
+        },
+        lent: &mut || {
+            for call in &calls {
+                assert_eq!(black_box(call).build(lent.lent()).number, 0);
+                black_box(&mut lent);
+            }
+        },
+        new: Some(&mut || {
+            for job in &safe {
+                let built = black_box(job).build();
+                assert!(black_box(&built).is_ok());
+            }
+        }),
+        copy: &mut || jobs.iter().for_each(|_| copy(black_box(&from), &mut to)),
+    };
+    let job = format!("{name}, {} vertices", counts.vertices);
+    sides.tell(&job, way);
+}
+
+/// Single faces: the numbered one of each column, and hexx's same face alone.
+fn faces(
+    name: &str,
+    way: Way,
+    columns: &[Column],
+    face: usize,
+    hexx: impl Fn(&Column) -> MeshInfo,
+) {
+    let counts = Counts::of(&hexx(&columns[0]));
+    let calls: Vec<Call> = columns.iter().map(Job::call).collect();
+    let plan = calls[0].plan();
+    let all = Counts {
+        vertices: plan.vertices,
+        indices: plan.indices,
+    };
+    let mut lent = Buffers::marked(all.lengths());
+    let from = Buffers::marked(counts.lengths());
+    let mut to = from.clone();
+    let sides = Sides {
+        vertices: counts.vertices * columns.len(),
+        hexx: &mut || {
+            for column in columns {
+                black_box(hexx(black_box(column)));
+            }
+        },
+        lent: &mut || {
+            for call in &calls {
+                assert_eq!(black_box(call).face(face, lent.lent()).number, 0);
+                black_box(&mut lent);
+            }
+        },
+        new: None,
+        copy: &mut || columns.iter().for_each(|_| copy(black_box(&from), &mut to)),
+    };
+    sides.tell(name, way.name);
+}
+
+/// hexx's lowest part of side 3, by itself and not placed.
+fn part(column: &Column, options: FaceOptions) -> MeshInfo {
+    let delta = column.height / column.parts() as f32;
+    quad(&QuadCase {
+        sides: column.ends[3],
+        heights: [0.0, delta],
+        range: None,
+        options,
+        when: When::Before,
+    })
+}
+
+fn great_columns(random: &mut Random) {
+    for way in ways() {
+        let great = [column(way, Some(way.parts), random)];
+        let layout = great[0].layout();
+        let builder = great[0].builder(&layout);
+        whole("a great column", way.name, &great, |_| {
+            builder.clone().build()
+        });
+    }
+}
+
+fn small_columns(random: &mut Random) {
+    for way in ways() {
+        let small: Vec<Column> = (0..SET).map(|_| column(way, None, random)).collect();
+        let layouts: Vec<_> = small.iter().map(Column::layout).collect();
+        let both = small.iter().zip(&layouts);
+        let builders: Vec<_> = both.map(|(job, layout)| job.builder(layout)).collect();
+        whole("a small column", way.name, &small, |at| {
+            builders[at].clone().build()
+        });
+    }
+}
+
+fn planes(random: &mut Random) {
+    for way in ways() {
+        let planes: Vec<Plane> = (0..SET).map(|_| plane(way, random)).collect();
+        let layouts: Vec<_> = planes.iter().map(Plane::layout).collect();
+        let both = planes.iter().zip(&layouts);
+        let builders: Vec<_> = both.map(|(job, layout)| job.builder(layout)).collect();
+        whole("a plane", way.name, &planes, |at| {
+            builders[at].clone().build()
+        });
+    }
+}
+
+fn cheap_columns(random: &mut Random) {
+    let columns: Vec<CheapColumn> = (0..SET).map(|_| cheap(random)).collect();
+    let layouts: Vec<_> = columns.iter().map(CheapColumn::layout).collect();
+    whole("a cheap column", "", &columns, |at| {
+        MeshInfo::cheap_hexagonal_column(&layouts[at], Hex::ZERO, columns[at].height)
+    });
+}
+
+fn single_faces(random: &mut Random) {
+    for way in ways() {
+        for (name, parts) in [
+            ("one side of a small column", None),
+            ("one part of a great column", Some(way.parts)),
+        ] {
+            let columns: Vec<Column> = (0..SET).map(|_| column(way, parts, random)).collect();
+            // The lowest part of side 3.
+            let number = 3 * columns[0].parts() as usize;
+            faces(name, way, &columns, number, |column| {
+                part(column, way.face())
+            });
+        }
+    }
+}
+
+fn main() {
+    eprintln!("made with {}", oracle::MADE_WITH);
+    println!("| job | options | hexx | ours, lent | ratio | ours, new | ratio | copy |");
+    println!("|---|---|---|---|---|---|---|---|");
+    let random = &mut Random::new(1);
+    great_columns(random);
+    small_columns(random);
+    planes(random);
+    cheap_columns(random);
+    single_faces(random);
+}

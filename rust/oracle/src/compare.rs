@@ -1,0 +1,220 @@
+//! Holds the answers of our own code to those wanted: a plan, a whole build, single
+//! faces in any order with refused calls between them, and short buffers.
+
+use crate::MeshInfo;
+use crate::buffers::{Buffers, Counts};
+use crate::ours::{Call, Job};
+use crate::random::Random;
+use crate::safe;
+use hosirekar::Job as _;
+use hosirekar_sys::CAnswer;
+
+/// How many were tried and how many differ, and what the first one shows.
+#[derive(Debug, Default)]
+pub struct Tally {
+    pub tried: u64,
+    pub differ: u64,
+    pub first: Option<String>,
+}
+
+impl Tally {
+    /// Counts one in.
+    pub fn add(&mut self, found: Result<(), String>) {
+        self.tried += 1;
+        if let Err(what) = found {
+            self.differ += 1;
+            self.first.get_or_insert(what);
+        }
+    }
+}
+
+/// The answer of a call that is done.
+#[must_use]
+pub fn done(counts: Counts) -> CAnswer {
+    CAnswer {
+        vertices: counts.vertices,
+        indices: counts.indices,
+        ..CAnswer::default()
+    }
+}
+
+/// The answer of a call that is refused.
+#[must_use]
+pub fn refused(number: u32) -> CAnswer {
+    CAnswer {
+        number,
+        ..CAnswer::default()
+    }
+}
+
+/// Nothing, or what differs.
+pub fn hold<T: PartialEq + std::fmt::Debug>(what: &str, is: T, wanted: T) -> Result<(), String> {
+    match is == wanted {
+        true => Ok(()),
+        false => Err(format!("{what}: {is:?}, not {wanted:?}")),
+    }
+}
+
+/// Nothing, or where two sets of buffers differ.
+pub fn hold_buffers(what: &str, is: &Buffers, wanted: &Buffers) -> Result<(), String> {
+    match is.difference(wanted) {
+        None => Ok(()),
+        Some(place) => Err(format!("{what}: {place}")),
+    }
+}
+
+/// A job on trial, with the mesh that it should have.
+pub struct Trial {
+    pub call: Call,
+    pub mesh: MeshInfo,
+    /// Where each face begins, and where the last one ends.
+    pub starts: Vec<Counts>,
+    /// The lengths of the buffers that are lent, some longer than the mesh.
+    pub lengths: [usize; 4],
+}
+
+impl Trial {
+    /// Lends up to seven places more than needed in each list.
+    #[must_use]
+    pub fn new(job: &impl Job, random: &mut Random) -> Self {
+        let mut starts = vec![Counts::default()];
+        let mut end = Counts::default();
+        for face in job.face_counts() {
+            end = end.plus(face);
+            starts.push(end);
+        }
+        let mesh = job.wanted();
+        let lengths = Counts::of(&mesh).lengths();
+        Self {
+            call: job.call(),
+            mesh,
+            starts,
+            lengths: lengths.map(|length| length + random.below(8) as usize),
+        }
+    }
+
+    /// How many faces there are.
+    #[must_use]
+    pub fn faces(&self) -> usize {
+        self.starts.len() - 1
+    }
+
+    fn counts(&self) -> Counts {
+        Counts::of(&self.mesh)
+    }
+
+    /// The plan has the mesh's counts, which are the sums over the faces.
+    pub fn plan(&self) -> Result<(), String> {
+        let counts = self.counts();
+        hold("sums", self.starts[self.faces()], counts)?;
+        hold("plan", self.call.plan(), done(counts))
+    }
+
+    /// A whole build has the mesh's numbers, and leaves all other places.
+    pub fn whole(&self) -> Result<(), String> {
+        let mut wanted = Buffers::marked(self.lengths);
+        let mut buffers = wanted.clone();
+        wanted.lay(&self.mesh, Counts::default(), self.counts());
+        hold(
+            "build",
+            self.call.build(buffers.lent()),
+            done(self.counts()),
+        )?;
+        hold_buffers("build", &buffers, &wanted)
+    }
+
+    /// Where a list is one short, a build and a face call are refused.
+    pub fn short(&self, random: &mut Random) -> Result<(), String> {
+        let exact = self.counts().lengths();
+        let untouched = Buffers::marked(exact);
+        let mut buffers = untouched.clone();
+        for list in (0..4).filter(|&list| exact[list] > 0) {
+            let mut lengths = exact;
+            lengths[list] -= 1;
+            let build = self.call.build(buffers.cut(lengths));
+            hold("short build", build, refused(5))?;
+            let face = random.below(self.faces() as u32) as usize;
+            let face = self.call.face(face, buffers.cut(lengths));
+            hold("short face", face, refused(5))?;
+            let none = self.call.face(self.faces(), buffers.cut(lengths));
+            hold("short face that is not there", none, refused(6))?;
+        }
+        hold_buffers("short", &buffers, &untouched)
+    }
+
+    /// All faces in some order, some of them again, with refused calls between;
+    /// where it is `watched`, every place is looked at after every call.
+    pub fn by_faces(&self, watched: bool, random: &mut Random) -> Result<(), String> {
+        let mut wanted = Buffers::marked(self.lengths);
+        let mut buffers = wanted.clone();
+        for face in order(self.faces(), random) {
+            if random.once_in(2) {
+                self.refused(&mut buffers, random)?;
+            }
+            let answer = self.call.face(face, buffers.lent());
+            hold("face", answer, done(self.counts()))?;
+            wanted.lay(&self.mesh, self.starts[face], self.starts[face + 1]);
+            if watched {
+                hold_buffers("face", &buffers, &wanted)?;
+            }
+        }
+        self.refused(&mut buffers, random)?;
+        hold_buffers("faces", &buffers, &wanted)
+    }
+
+    /// One call that must be refused, on the buffers that are being filled.
+    fn refused(&self, buffers: &mut Buffers, random: &mut Random) -> Result<(), String> {
+        let faces = self.faces();
+        let none = random.pick(&[faces, faces + 1, faces + 65_536, usize::MAX]);
+        if random.once_in(2) {
+            let answer = self.call.face(none, buffers.lent());
+            return hold("face that is not there", answer, refused(6));
+        }
+        let (number, call) = self.call.faulty(random);
+        hold("faulty plan", call.plan(), refused(number))?;
+        let answer = match random.once_in(2) {
+            true => call.build(buffers.lent()),
+            false => call.face(none, buffers.lent()),
+        };
+        hold("faulty call", answer, refused(number))
+    }
+}
+
+/// Every number below `count` once, and some twice, in any order.
+fn order(count: usize, random: &mut Random) -> Vec<usize> {
+    let mut order: Vec<usize> = (0..count).collect();
+    order.extend((0..count).filter(|_| random.once_in(3)));
+    for at in (1..order.len()).rev() {
+        order.swap(at, random.below(at as u32 + 1) as usize);
+    }
+    order
+}
+
+/// The safe crate's own build has exactly the mesh's numbers.
+pub fn safe(job: &impl Job, mesh: &MeshInfo) -> Result<(), String> {
+    let counts = Counts::of(mesh);
+    let mut wanted = Buffers::marked(counts.lengths());
+    wanted.lay(mesh, Counts::default(), counts);
+    let built = job.safe().build().map_err(|no| no.to_string())?;
+    let built = safe::lists(built);
+    let lengths = [
+        built.vertices.len(),
+        built.normals.len(),
+        built.uvs.len(),
+        built.indices.len(),
+    ];
+    hold("safe lengths", lengths, counts.lengths())?;
+    hold_buffers("safe build", &built, &wanted)
+}
+
+/// All that is asked of one job.
+pub fn job(job: &impl Job, random: &mut Random) -> Result<(), String> {
+    let trial = Trial::new(job, random);
+    let all = trial
+        .plan()
+        .and_then(|()| trial.whole())
+        .and_then(|()| safe(job, &trial.mesh))
+        .and_then(|()| trial.short(random))
+        .and_then(|()| trial.by_faces(true, random));
+    all.map_err(|what| format!("{what}\n{job:?}"))
+}
