@@ -1,0 +1,5 @@
+pub mod Steps
+pub mod Formats
+pub mod Exact
+pub mod Determined
+pub mod Bench
