@@ -1,0 +1,20 @@
+-- `main`: what is written is as much as was answered. Assumes nothing.
+use borrow.Author.Needs.{needs}
+use Rattle.sheet.proofs.Laws.{answer-within, answer-counts}
+use Rattle.panel.proofs.main.Statement.{statement}
+use Rattle.panel.proofs.main.Tie as tie
+
+pub main-spec : {M : Type 1} → statement M
+main-spec =
+    tie.close
+    (tie.spec
+    (λ c. search needs)
+    (λ c κs. search needs)
+    (λ c. search needs)
+    (λ c. search needs)
+    (λ c. search needs)
+    (λ c κs. search needs)
+    (λ c. answer-within _ _ _ _ (c .before .write-answer .ensures))
+    (λ c. answer-counts _ _ _ _ (c .before .before .write-answer .ensures))
+    (λ c κs. search needs)
+    (λ c. search needs))

@@ -1,0 +1,104 @@
+-- The text that a sheet is answered with; P1 to P9 and R9 are rows of docs/TRACE.md. Definitions only.
+use Prim.Native.Nat.{ℕ, _*_}
+use mathlib.Core.Bool.{Bool}
+use mathlib.Core.List.{List, [], map}
+use lib.ListN.{length}
+use lib.Dec.{leb, ltb}
+use lib.Ieee.{Float, binary32, ofBits}
+use Rattle.face.specs.Lists.{pick, each}
+use Rattle.face.specs.Vec.{zero2}
+use Rattle.answer.specs.declared.answer.Buffer.the-variants.{Vertices}
+use Rattle.answer.specs.declared.answer.Refusal.the-variants.{Room}
+use Rattle.answer.specs.declared.answer.Refusal.the-variants as refusal
+use Rattle.answer.specs.declared.answer.Answer.{Answer}
+use Rattle.answer.specs.declared.answer.Answer.the-variants.{Done, Refused}
+use Rattle.answer.specs.Answers.{code, given}
+use Rattle.placement.specs.declared.placement.Choice3.the-variants as choice
+use Rattle.placement.specs.declared.placement.Turn.the-variants as turn
+use Rattle.placement.specs.declared.placement.Placement.{Placement}
+use Rattle.buffers.specs.Mesh.{Mesh, joined}
+use Rattle.buffers.specs.Laying.{Buffers, four, three, two, corners, spread}
+use Rattle.column_builder.specs.declared.Subdivisions.the-variants as subdivisions
+use Rattle.column_builder.specs.declared.Choice.{Choice}
+use Rattle.column_builder.specs.declared.Choice.the-variants as option
+use Rattle.column_builder.specs.declared.Side.{Side}
+use Rattle.column_builder.specs.declared.Column.{Column}
+use Rattle.column_builder.specs.Column.{Lists, lists, columnFaces, planned}
+use Rattle.mesh_text.specs.Text.{meshText, refusalText, Written}
+use Rattle.sheet_reading.specs.declared.Sheet.{Sheet}
+use Rattle.sheet_reading.specs.declared.Reading.{Reading}
+use Rattle.sheet_reading.specs.Readers.{reading}
+
+-- ---- the column of a sheet
+-- P2: the numbers of patterns; every NaN's is the one NaN, which is out of range
+abbrev pub floats : List ℕ → List Float
+floats = map (ofBits binary32)
+
+-- P5: the default option, where there is a face at all
+abbrev pub plainIf : Bool → Choice
+plainIf there = pick there (option.With 255) option.Absent
+
+-- P4: sides 0 to n - 1
+abbrev pub sidesOf : ℕ → List Side
+sidesOf n = each (λ d. record { option = plainIf (ltb d n) }) 6
+
+abbrev pub unmoved : Placement
+unmoved = record { scale = choice.Absent; turn = turn.Absent; offset = choice.Absent }
+
+abbrev pub columnOf : Sheet → Column
+columnOf s =
+    record {
+      height = ofBits binary32 (s .height);
+      subdivisions = subdivisions.Of (s .subdivisions);
+      sides = sidesOf (s .sides);
+      top = plainIf (s .caps);
+      bottom = plainIf (s .caps);
+      position = zero2;
+      placement = unmoved;
+    }
+
+-- no table of options
+abbrev pub listsOf : Sheet → Lists
+listsOf s = lists (floats (s .pairs)) (floats (s .corners)) [] []
+
+-- ---- its answer
+-- P7: after the plan's own refusals, a plan of more than 1,024 vertices is 5
+abbrev pub printable : Answer → Answer
+printable (Refused e) = Refused e
+printable (Done c) = given (leb (c .vertices .0) 1024) (Room Vertices) (Done c)
+
+-- the numbers of a mesh, and of nothing else
+abbrev pub flat : Mesh → Buffers
+flat m =
+    four
+    (spread (λ w. three (w .position)) (m .vertices))
+    (spread (λ w. three (w .normal)) (m .vertices))
+    (spread (λ w. two (w .uv)) (m .vertices))
+    (spread (corners 0) (m .triangles))
+
+-- P9
+abbrev pub textOf : Mesh → List ℕ
+textOf m = meshText (flat m .vertices) (flat m .normals) (flat m .uvs) (flat m .indices) (length (m .vertices)) (3 * length (m .triangles))
+
+-- P8: `refused N`, or the mesh
+abbrev pub told : Answer → Mesh → List ℕ
+told (Refused e) m = refusalText (code e)
+told (Done c) m = textOf m
+
+-- the mesh is the column's faces end to end
+unfoldable pub columnText : Column → Lists → List ℕ
+columnText job ls = told (printable (planned job ls)) (joined (columnFaces job ls))
+
+-- R9, P6: what does not read is 9, before anything else
+abbrev pub readingText : Reading → List ℕ
+readingText r = pick (r .good) (columnText (columnOf (r .sheet)) (listsOf (r .sheet))) (refusalText (code refusal.Sheet))
+
+unfoldable pub answerText : List ℕ → List ℕ
+answerText bytes = readingText (reading bytes)
+
+-- a text at the start of a buffer, with its length as the answer; where it does not fit, nothing, and 0
+abbrev pub Told : List ℕ → List ℕ → List ℕ → ℕ → Type 0
+Told text old = Written (leb (length text) (length old)) text old
+
+abbrev pub Answered : List ℕ → List ℕ → List ℕ → ℕ → Type 0
+Answered bytes = Told (answerText bytes)
