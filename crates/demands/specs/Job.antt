@@ -1,0 +1,96 @@
+-- Every kind of job as one; R10 to X6 are rows of docs/TRACE.md. Definitions only.
+use mathlib.Core.Path.{_≡_}
+use mathlib.Core.Logic.{_⊎_}
+use mathlib.Core.List.{List, [], _∷_}
+use Prim.Native.Nat.{ℕ}
+use lib.Ieee.{Float}
+use Rattle.answer.specs.declared.answer.Refusal.{Refusal}
+use Rattle.answer.specs.declared.answer.Answer.{Answer}
+use Rattle.answer.specs.declared.answer.Answer.the-variants.{Refused}
+use Rattle.buffers.specs.Mesh.{Mesh}
+use Rattle.buffers.specs.Laying.{Buffers}
+use Rattle.mesh.specs.declared.cheap_column.CheapColumn.{CheapColumn}
+use Rattle.mesh.specs.CheapColumn as cheap
+use Rattle.plane_builder.specs.declared.Plane.{Plane}
+use Rattle.plane_builder.specs.Plane as plane
+use Rattle.column_builder.specs.declared.Column.{Column}
+use Rattle.column_builder.specs.Column as column
+
+-- a job with the lists that are lent to it
+pub data Job : Type 0 where
+  OfCheapColumn : CheapColumn → List Float → Job
+  OfPlane : Plane → List Float → List Float → List ℕ → Job
+  OfColumn : Column → column.Lists → Job
+
+-- R15, R16: its faces, in their order
+abbrev pub faces : Job → List Mesh
+faces (OfCheapColumn job l) = cheap.cheapFaces job l
+faces (OfPlane job l ns ms) = plane.planeFaces job l ns ms
+faces (OfColumn job ls) = column.columnFaces job ls
+
+-- ---- what the three calls of each kind promise
+abbrev pub planned : Job → Answer
+planned (OfCheapColumn job l) = cheap.planned job l
+planned (OfPlane job l ns ms) = plane.planned job l ns ms
+planned (OfColumn job ls) = column.planned job ls
+
+abbrev pub wholeAnswer : Job → Buffers → Answer
+wholeAnswer (OfCheapColumn job l) = cheap.wholeAnswer job l
+wholeAnswer (OfPlane job l ns ms) = plane.wholeAnswer job l ns ms
+wholeAnswer (OfColumn job ls) = column.wholeAnswer job ls
+
+abbrev pub faceAnswer : Job → ℕ → Buffers → Answer
+faceAnswer (OfCheapColumn job l) = cheap.faceAnswer job l
+faceAnswer (OfPlane job l ns ms) = plane.faceAnswer job l ns ms
+faceAnswer (OfColumn job ls) = column.faceAnswer job ls
+
+abbrev pub built : Job → Buffers → Buffers
+built (OfCheapColumn job l) = cheap.built job l
+built (OfPlane job l ns ms) = plane.built job l ns ms
+built (OfColumn job ls) = column.built job ls
+
+abbrev pub faced : Job → ℕ → Buffers → Buffers
+faced (OfCheapColumn job l) = cheap.faced job l
+faced (OfPlane job l ns ms) = plane.faced job l ns ms
+faced (OfColumn job ls) = column.faced job ls
+
+-- ---- X5: a run of calls on the same buffers, for a job
+pub data Call : Type 0 where
+  -- a face of the job
+  Face : ℕ → Call
+  -- a whole build, and a face call, of any job
+  BuildOf : Job → Call
+  FaceOf : Job → ℕ → Call
+  -- a refused call of another kind: a merge, a stored mesh; it leaves what is lent
+  Other : Call
+
+abbrev pub done : Job → Call → Buffers → Buffers
+done job (Face k) B = faced job k B
+done job (BuildOf other) B = built other B
+done job (FaceOf other k) B = faced other k B
+done job Other B = B
+
+unfoldable pub called : Job → List Call → Buffers → Buffers
+called job [] B = B
+called job (c ∷ cs) B = called job cs (done job c B)
+
+-- R10: an answer that is some refusal
+pub record IsRefused (a : Answer) : Type 0 where
+  pub why : Refusal
+  pub so : a ≡ Refused why
+
+-- all but the job's own face calls are refused in such buffers
+abbrev pub RefusedThere : Buffers → Call → Type 0
+RefusedThere B (Face k) = Unit {0}
+RefusedThere B (BuildOf other) = IsRefused (wholeAnswer other B)
+RefusedThere B (FaceOf other k) = IsRefused (faceAnswer other k B)
+RefusedThere B Other = Unit {0}
+
+abbrev pub AllRefused : Buffers → List Call → Type 0
+AllRefused B [] = Unit {0}
+AllRefused B (c ∷ cs) = RefusedThere B c × AllRefused B cs
+
+-- some call is of the job's face k
+abbrev pub Among : ℕ → List Call → Type 0
+Among k [] = ⊥
+Among k (c ∷ cs) = (c ≡ Face k) ⊎ Among k cs
