@@ -1,20 +1,12 @@
 // What C and Rust link: each function under a name with the prefix `hosirekar_`, for every input.
-ghost use mathlib.Core.Path.{_≡_};
-ghost use Rattle.arith.specs.Root.{root};
-ghost use Rattle.arith.specs.Fused.{fma};
-
-// The `f32` nearest to the square root of x.
-#[no_mangle]
-pub extern "C" fn hosirekar_root(x: f32) -> f32
-    ensures { λ r. ⌜ r ≡ root x ⌝ }
-{
-    arith::root(x)
-}
-
-// a * b + c, rounded once.
-#[no_mangle]
-pub extern "C" fn hosirekar_fused(a: f32, b: f32, c: f32) -> f32
-    ensures { λ r. ⌜ r ≡ fma a b c ⌝ }
-{
-    arith::fused(a, b, c)
-}
+// It promises what the function below it promises, with jobs and answers carried over by the
+// definitions of specs/Given.antt and specs/Told.antt.
+pub mod cheap_column;
+pub mod column;
+pub mod given;
+pub mod merge;
+pub mod numbers;
+pub mod plane;
+pub mod stored;
+pub mod texture;
+pub mod told;

@@ -1,12 +1,13 @@
-//! The functions of the proved archive, as C sees them, and nothing else.
+//! The functions of the proved archive, as C sees them, each under its own name and safe to call.
+//!
+//! A list goes over as a pointer and a length. Each function takes every input: it answers with a
+//! number, 0 where it was done, and writes nothing where it was refused.
 #![no_std]
 
-// They are declared safe because they are proved for every input: they read
-// and write no memory of the caller's, and always return.
-unsafe extern "C" {
-    /// The square root of `x`, correctly rounded.
-    pub safe fn hosirekar_root(x: f32) -> f32;
+mod calls;
+mod raw;
+mod structs;
 
-    /// `a` × `b` + `c`, rounded once.
-    pub safe fn hosirekar_fused(a: f32, b: f32, c: f32) -> f32;
-}
+pub use calls::*;
+pub use raw::{hosirekar_alter_uv, hosirekar_fused, hosirekar_root, hosirekar_wrap_uv};
+pub use structs::*;

@@ -1,0 +1,96 @@
+-- Each promise fixes its answer, its values and the buffers that are written: any two results that it allows are equal. Assumes nothing.
+use mathlib.Core.Path.{_≡_, ap}
+use mathlib.Core.List.{List}
+use Prim.Native.Nat.{ℕ}
+use lib.Ieee.{Float}
+use Rattle.arith.specs.Root.{root}
+use Rattle.arith.specs.Fused.{fma}
+use Rattle.answer.proofs.Determined.{determined}
+use Rattle.answer.specs.declared.answer.Answer.{Answer}
+use Rattle.face.specs.Texture.{altered, wrapped}
+use Rattle.buffers.specs.Laying.{Buffers, four}
+use Rattle.mesh.specs.Merge.{mergeAnswer, merged}
+use Rattle.mesh.specs.Stored.{scaleAnswer, scaled, offsetAnswer, shifted, textureScaleAnswer, textureScaled, centroidOf, uvCentroidOf}
+use Rattle.mesh.specs.CheapColumn as cheap
+use Rattle.plane_builder.specs.Plane as plane
+use Rattle.column_builder.specs.Column as column
+use Rattle.exports.specs.declared.given.CVec2.{CVec2}
+use Rattle.exports.specs.declared.given.CVec3.{CVec3}
+use Rattle.exports.specs.declared.given.CCounts.{CCounts}
+use Rattle.exports.specs.declared.told.CAnswer.{CAnswer}
+use Rattle.exports.specs.declared.plane.CPlane.{CPlane}
+use Rattle.exports.specs.declared.column.CColumn.{CColumn}
+use Rattle.exports.specs.declared.cheap_column.CCheapColumn.{CCheapColumn}
+use Rattle.exports.specs.declared.stored.CCentroid.{CCentroid}
+use Rattle.exports.specs.declared.stored.CUvCentroid.{CUvCentroid}
+use Rattle.exports.specs.declared.texture.CUvOptions.{CUvOptions}
+use Rattle.exports.specs.Given.{vec2Of, vec3Of, countsIn, planeOf, columnOf, cheapColumnOf, uvOptionsOf}
+use Rattle.exports.specs.Told.{told, told2, toldCentroid, toldUvCentroid}
+
+-- an answer that is told, and four buffers
+both : (a : Answer) (B : Buffers) (x y : CAnswer) (C D : Buffers) → x ≡ told a → y ≡ told a → C ≡ B → D ≡ B → (x ≡ y) × (C ≡ D)
+both a B x y C D p q h k = (determined p q, determined h k)
+
+pub root-determined : (a r s : Float) → r ≡ root a → s ≡ root a → r ≡ s
+root-determined a r s p q = determined p q
+
+pub fused-determined : (a b c r s : Float) → r ≡ fma a b c → s ≡ fma a b c → r ≡ s
+fused-determined a b c r s p q = determined p q
+
+pub alter-uv-determined : (o : CUvOptions) (uv r s : CVec2) → r ≡ told2 (altered (uvOptionsOf o) (vec2Of uv)) → s ≡ told2 (altered (uvOptionsOf o) (vec2Of uv)) → r ≡ s
+alter-uv-determined o uv r s p q = determined p q
+
+pub wrap-uv-determined : (at r s : CVec2) → r ≡ told2 (wrapped (vec2Of at)) → s ≡ told2 (wrapped (vec2Of at)) → r ≡ s
+wrap-uv-determined at r s p q = determined p q
+
+module _ (job : CPlane) (l ns : List Float) (ms : List ℕ) where
+  pub plane-plan-determined : (x y : CAnswer) → x ≡ told (plane.planned (planeOf job) l ns ms) → y ≡ told (plane.planned (planeOf job) l ns ms) → x ≡ y
+  plane-plan-determined x y p q = determined p q
+
+  pub plane-build-determined : (B : Buffers) (x y : CAnswer) (C D : Buffers) → x ≡ told (plane.wholeAnswer (planeOf job) l ns ms B) → y ≡ told (plane.wholeAnswer (planeOf job) l ns ms B) → C ≡ plane.built (planeOf job) l ns ms B → D ≡ plane.built (planeOf job) l ns ms B → (x ≡ y) × (C ≡ D)
+  plane-build-determined B = both (plane.wholeAnswer (planeOf job) l ns ms B) (plane.built (planeOf job) l ns ms B)
+
+  pub plane-face-determined : (n : ℕ) (B : Buffers) (x y : CAnswer) (C D : Buffers) → x ≡ told (plane.faceAnswer (planeOf job) l ns ms n B) → y ≡ told (plane.faceAnswer (planeOf job) l ns ms n B) → C ≡ plane.faced (planeOf job) l ns ms n B → D ≡ plane.faced (planeOf job) l ns ms n B → (x ≡ y) × (C ≡ D)
+  plane-face-determined n B = both (plane.faceAnswer (planeOf job) l ns ms n B) (plane.faced (planeOf job) l ns ms n B)
+
+module _ (job : CColumn) (ls : column.Lists) where
+  pub column-plan-determined : (x y : CAnswer) → x ≡ told (column.planned (columnOf job) ls) → y ≡ told (column.planned (columnOf job) ls) → x ≡ y
+  column-plan-determined x y p q = determined p q
+
+  pub column-build-determined : (B : Buffers) (x y : CAnswer) (C D : Buffers) → x ≡ told (column.wholeAnswer (columnOf job) ls B) → y ≡ told (column.wholeAnswer (columnOf job) ls B) → C ≡ column.built (columnOf job) ls B → D ≡ column.built (columnOf job) ls B → (x ≡ y) × (C ≡ D)
+  column-build-determined B = both (column.wholeAnswer (columnOf job) ls B) (column.built (columnOf job) ls B)
+
+  pub column-face-determined : (n : ℕ) (B : Buffers) (x y : CAnswer) (C D : Buffers) → x ≡ told (column.faceAnswer (columnOf job) ls n B) → y ≡ told (column.faceAnswer (columnOf job) ls n B) → C ≡ column.faced (columnOf job) ls n B → D ≡ column.faced (columnOf job) ls n B → (x ≡ y) × (C ≡ D)
+  column-face-determined n B = both (column.faceAnswer (columnOf job) ls n B) (column.faced (columnOf job) ls n B)
+
+module _ (job : CCheapColumn) (l : List Float) where
+  pub cheap-column-plan-determined : (x y : CAnswer) → x ≡ told (cheap.planned (cheapColumnOf job) l) → y ≡ told (cheap.planned (cheapColumnOf job) l) → x ≡ y
+  cheap-column-plan-determined x y p q = determined p q
+
+  pub cheap-column-build-determined : (B : Buffers) (x y : CAnswer) (C D : Buffers) → x ≡ told (cheap.wholeAnswer (cheapColumnOf job) l B) → y ≡ told (cheap.wholeAnswer (cheapColumnOf job) l B) → C ≡ cheap.built (cheapColumnOf job) l B → D ≡ cheap.built (cheapColumnOf job) l B → (x ≡ y) × (C ≡ D)
+  cheap-column-build-determined B = both (cheap.wholeAnswer (cheapColumnOf job) l B) (cheap.built (cheapColumnOf job) l B)
+
+  pub cheap-column-face-determined : (n : ℕ) (B : Buffers) (x y : CAnswer) (C D : Buffers) → x ≡ told (cheap.faceAnswer (cheapColumnOf job) l n B) → y ≡ told (cheap.faceAnswer (cheapColumnOf job) l n B) → C ≡ cheap.faced (cheapColumnOf job) l n B → D ≡ cheap.faced (cheapColumnOf job) l n B → (x ≡ y) × (C ≡ D)
+  cheap-column-face-determined n B = both (cheap.faceAnswer (cheapColumnOf job) l n B) (cheap.faced (cheapColumnOf job) l n B)
+
+pub merge-determined : (s : CCounts) (S : Buffers) (t : CCounts) (T : Buffers) (x y : CAnswer) (C D : Buffers) → x ≡ told (mergeAnswer (countsIn s) S (countsIn t) T) → y ≡ told (mergeAnswer (countsIn s) S (countsIn t) T) → C ≡ merged (countsIn s) S (countsIn t) T → D ≡ merged (countsIn s) S (countsIn t) T → (x ≡ y) × (C ≡ D)
+merge-determined s S t T = both (mergeAnswer (countsIn s) S (countsIn t) T) (merged (countsIn s) S (countsIn t) T)
+
+module _ (c : CCounts) (v n t : List Float) (i : List ℕ) where
+  abbrev lent : Buffers
+  lent = four v n t i
+
+  pub scale-determined : (by : CVec3) (r s : CAnswer) (x y : List Float) → r ≡ told (scaleAnswer (countsIn c) (vec3Of by) lent) → s ≡ told (scaleAnswer (countsIn c) (vec3Of by) lent) → four x n t i ≡ scaled (countsIn c) (vec3Of by) lent → four y n t i ≡ scaled (countsIn c) (vec3Of by) lent → (r ≡ s) × (x ≡ y)
+  scale-determined by r s x y p q h k = (determined p q, ap (λ (B : Buffers). B .vertices) (determined h k))
+
+  pub offset-determined : (by : CVec3) (r s : CAnswer) (x y : List Float) → r ≡ told (offsetAnswer (countsIn c) (vec3Of by) lent) → s ≡ told (offsetAnswer (countsIn c) (vec3Of by) lent) → four x n t i ≡ shifted (countsIn c) (vec3Of by) lent → four y n t i ≡ shifted (countsIn c) (vec3Of by) lent → (r ≡ s) × (x ≡ y)
+  offset-determined by r s x y p q h k = (determined p q, ap (λ (B : Buffers). B .vertices) (determined h k))
+
+  pub texture-scale-determined : (by : CVec2) (r s : CAnswer) (x y : List Float) → r ≡ told (textureScaleAnswer (countsIn c) (vec2Of by) lent) → s ≡ told (textureScaleAnswer (countsIn c) (vec2Of by) lent) → four v n x i ≡ textureScaled (countsIn c) (vec2Of by) lent → four v n y i ≡ textureScaled (countsIn c) (vec2Of by) lent → (r ≡ s) × (x ≡ y)
+  texture-scale-determined by r s x y p q h k = (determined p q, ap (λ (B : Buffers). B .uvs) (determined h k))
+
+  pub centroid-determined : (r s : CCentroid) → r ≡ toldCentroid (centroidOf (countsIn c) lent) → s ≡ toldCentroid (centroidOf (countsIn c) lent) → r ≡ s
+  centroid-determined r s p q = determined p q
+
+  pub uv-centroid-determined : (r s : CUvCentroid) → r ≡ toldUvCentroid (uvCentroidOf (countsIn c) lent) → s ≡ toldUvCentroid (uvCentroidOf (countsIn c) lent) → r ≡ s
+  uv-centroid-determined r s p q = determined p q

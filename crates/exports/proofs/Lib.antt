@@ -1,0 +1,3 @@
+mod Carried
+pub mod Laws
+pub mod Determined

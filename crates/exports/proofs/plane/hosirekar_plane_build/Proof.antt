@@ -1,0 +1,27 @@
+-- `hosirekar_plane_build`: the function below it, with what is given carried over and its answer told. Assumes nothing.
+use borrow.Author.Needs.{needs}
+use denote.Ref.{now}
+use Rattle.buffers.specs.Laying.{four}
+use Rattle.plane_builder.specs.declared.Plane.{Plane}
+use Rattle.plane_builder.specs.Plane.{wholeAnswer, built}
+use Rattle.exports.specs.Told.{told}
+use Rattle.exports.proofs.Carried.{carried}
+use Rattle.exports.proofs.plane.hosirekar_plane_build.Statement.{statement}
+use Rattle.exports.proofs.plane.hosirekar_plane_build.Tie as tie
+
+pub hosirekar-plane-build-spec : {M : Type 1} → statement M
+hosirekar-plane-build-spec =
+    tie.close
+    (tie.spec
+    (λ c κs. search needs)
+    (λ c κs. search needs)
+    (λ c κs. search needs)
+    (λ c. search needs)
+    (λ c. search needs)
+    (λ c. search needs)
+    (λ c. search needs)
+    (λ c.
+    let a = c .before .before .before .before .before .before .before .before .before .before .before .before .before .before .before .before .before .before .before .before .before .before .args in
+    let B = four (now (a .vertices)) (now (a .normals)) (now (a .uvs)) (now (a .indices)) in
+    let same = c .before .before .before .before .before .before .before .before .before .before .before .before .before .before .plane-of .ensures in
+    (carried told (c .tell .ensures) (carried (λ (j : Plane). wholeAnswer j (now (a .corners)) (now (a .numbers)) (now (a .marks)) B) (c .before .before .before .before .before .before .before .before .before .build .ensures .0) same), carried (λ (j : Plane). built j (now (a .corners)) (now (a .numbers)) (now (a .marks)) B) (c .before .before .before .before .before .before .before .before .before .build .ensures .1) same)))

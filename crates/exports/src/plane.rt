@@ -1,0 +1,98 @@
+// A plane: six corners in a list of twelve numbers, and a table of options in two lists.
+ghost use mathlib.Core.Path.{_≡_};
+ghost use Rattle.buffers.specs.Laying.{four};
+ghost use Rattle.plane_builder.specs.Plane.{planned, wholeAnswer, faceAnswer, built, faced};
+ghost use Rattle.exports.specs.Given.{planeOf};
+ghost use Rattle.exports.specs.Told.{told};
+use crate::given::CPlacement;
+use crate::given::CVec2;
+use crate::told::CAnswer;
+use plane_builder::Plane;
+
+#[repr(C)]
+pub struct CPlane {
+    pub position: CVec2,
+    pub option: u8,
+    pub placement: CPlacement,
+}
+
+fn plane_of(job: CPlane) -> Plane
+    ensures { λ r. ⌜ r ≡ planeOf job ⌝ }
+{
+    let position = crate::given::vec2_of(job.position);
+    let placement = crate::given::placement_of(job.placement);
+    Plane {
+        position: position,
+        option: job.option,
+        placement: placement,
+    }
+}
+
+// The counts of the job, or why it is refused.
+#[no_mangle]
+pub extern "C" fn hosirekar_plane_plan(
+    job: CPlane,
+    corners: &[f32],
+    numbers: &[f32],
+    marks: &[u8],
+) -> CAnswer
+    ensures { λ r. ⌜ r ≡ told (planned (planeOf job) (now (corners .entry)) (now (numbers .entry)) (now (marks .entry))) ⌝ }
+{
+    crate::told::tell(plane_builder::plan(plane_of(job), corners, numbers, marks))
+}
+
+// The whole job, written to four buffers, or nothing.
+#[no_mangle]
+pub extern "C" fn hosirekar_plane_build(
+    job: CPlane,
+    corners: &[f32],
+    numbers: &[f32],
+    marks: &[u8],
+    vertices: &mut [f32],
+    normals: &mut [f32],
+    uvs: &mut [f32],
+    indices: &mut [u16],
+) -> CAnswer
+    ensures answer { λ r. ⌜ r ≡ told (wholeAnswer (planeOf job) (now (corners .entry)) (now (numbers .entry)) (now (marks .entry)) (four (now (vertices .entry)) (now (normals .entry)) (now (uvs .entry)) (now (indices .entry)))) ⌝ }
+    ensures buffers { λ _. ⌜ four (now (vertices .exit)) (now (normals .exit)) (now (uvs .exit)) (now (indices .exit)) ≡ built (planeOf job) (now (corners .entry)) (now (numbers .entry)) (now (marks .entry)) (four (now (vertices .entry)) (now (normals .entry)) (now (uvs .entry)) (now (indices .entry))) ⌝ }
+{
+    crate::told::tell(plane_builder::build(
+        plane_of(job),
+        corners,
+        numbers,
+        marks,
+        vertices,
+        normals,
+        uvs,
+        indices,
+    ))
+}
+
+// One face of the job, which has one: that of number 0.
+#[no_mangle]
+pub extern "C" fn hosirekar_plane_face(
+    job: CPlane,
+    corners: &[f32],
+    numbers: &[f32],
+    marks: &[u8],
+    number: usize,
+    vertices: &mut [f32],
+    normals: &mut [f32],
+    uvs: &mut [f32],
+    indices: &mut [u16],
+) -> CAnswer
+    ensures answer { λ r. ⌜ r ≡ told (faceAnswer (planeOf job) (now (corners .entry)) (now (numbers .entry)) (now (marks .entry)) number (four (now (vertices .entry)) (now (normals .entry)) (now (uvs .entry)) (now (indices .entry)))) ⌝ }
+    ensures buffers { λ _. ⌜ four (now (vertices .exit)) (now (normals .exit)) (now (uvs .exit)) (now (indices .exit)) ≡ faced (planeOf job) (now (corners .entry)) (now (numbers .entry)) (now (marks .entry)) number (four (now (vertices .entry)) (now (normals .entry)) (now (uvs .entry)) (now (indices .entry))) ⌝ }
+{
+    crate::told::tell(plane_builder::face(
+        plane_of(job),
+        corners,
+        numbers,
+        marks,
+        number,
+        vertices,
+        normals,
+        uvs,
+        indices,
+    ))
+}

@@ -1,0 +1,157 @@
+// What is done to a stored mesh: four lists and two counts.
+ghost use mathlib.Core.Path.{_≡_};
+ghost use Rattle.buffers.specs.Laying.{four};
+ghost use Rattle.mesh.specs.Stored.{scaleAnswer, scaled, offsetAnswer, shifted, textureScaleAnswer, textureScaled, centroidOf, uvCentroidOf};
+ghost use Rattle.exports.specs.Given.{countsIn, vec2Of, vec3Of};
+ghost use Rattle.exports.specs.Told.{told, toldCentroid, toldUvCentroid};
+use crate::given::CCounts;
+use crate::given::CVec2;
+use crate::given::CVec3;
+use crate::told::CAnswer;
+use mesh::stored::CentroidAnswer;
+use mesh::stored::UvCentroidAnswer;
+
+#[repr(C)]
+pub struct CCentroid {
+    pub answer: CAnswer,
+    pub centroid: CVec3,
+}
+
+#[repr(C)]
+pub struct CUvCentroid {
+    pub answer: CAnswer,
+    pub centroid: CVec2,
+}
+
+fn tell_centroid(c: CentroidAnswer) -> CCentroid
+    ensures { λ r. ⌜ r ≡ toldCentroid c ⌝ }
+{
+    let inner = c.answer;
+    let answer = crate::told::tell(inner);
+    let centroid = crate::told::tell3(c.centroid);
+    CCentroid {
+        answer: answer,
+        centroid: centroid,
+    }
+}
+
+fn tell_uv_centroid(c: UvCentroidAnswer) -> CUvCentroid
+    ensures { λ r. ⌜ r ≡ toldUvCentroid c ⌝ }
+{
+    let inner = c.answer;
+    let answer = crate::told::tell(inner);
+    let centroid = crate::told::tell2(c.centroid);
+    CUvCentroid {
+        answer: answer,
+        centroid: centroid,
+    }
+}
+
+// Multiplies each position, component by component.
+#[no_mangle]
+pub extern "C" fn hosirekar_scale(
+    counts: CCounts,
+    by: CVec3,
+    vertices: &mut [f32],
+    normals: &[f32],
+    uvs: &[f32],
+    indices: &[u16],
+) -> CAnswer
+    ensures answer { λ r. ⌜ r ≡ told (scaleAnswer (countsIn counts) (vec3Of by) (four (now (vertices .entry)) (now (normals .entry)) (now (uvs .entry)) (now (indices .entry)))) ⌝ }
+    ensures buffers { λ _. ⌜ four (now (vertices .exit)) (now (normals .entry)) (now (uvs .entry)) (now (indices .entry)) ≡ scaled (countsIn counts) (vec3Of by) (four (now (vertices .entry)) (now (normals .entry)) (now (uvs .entry)) (now (indices .entry))) ⌝ }
+{
+    crate::told::tell(mesh::stored::scale(
+        crate::given::counts_in(counts),
+        crate::given::vec3_of(by),
+        vertices,
+        normals,
+        uvs,
+        indices,
+    ))
+}
+
+// Adds to each position.
+#[no_mangle]
+pub extern "C" fn hosirekar_offset(
+    counts: CCounts,
+    by: CVec3,
+    vertices: &mut [f32],
+    normals: &[f32],
+    uvs: &[f32],
+    indices: &[u16],
+) -> CAnswer
+    ensures answer { λ r. ⌜ r ≡ told (offsetAnswer (countsIn counts) (vec3Of by) (four (now (vertices .entry)) (now (normals .entry)) (now (uvs .entry)) (now (indices .entry)))) ⌝ }
+    ensures buffers { λ _. ⌜ four (now (vertices .exit)) (now (normals .entry)) (now (uvs .entry)) (now (indices .entry)) ≡ shifted (countsIn counts) (vec3Of by) (four (now (vertices .entry)) (now (normals .entry)) (now (uvs .entry)) (now (indices .entry))) ⌝ }
+{
+    crate::told::tell(mesh::stored::offset(
+        crate::given::counts_in(counts),
+        crate::given::vec3_of(by),
+        vertices,
+        normals,
+        uvs,
+        indices,
+    ))
+}
+
+// Multiplies each uv, component by component.
+#[no_mangle]
+pub extern "C" fn hosirekar_texture_scale(
+    counts: CCounts,
+    by: CVec2,
+    vertices: &[f32],
+    normals: &[f32],
+    uvs: &mut [f32],
+    indices: &[u16],
+) -> CAnswer
+    ensures answer { λ r. ⌜ r ≡ told (textureScaleAnswer (countsIn counts) (vec2Of by) (four (now (vertices .entry)) (now (normals .entry)) (now (uvs .entry)) (now (indices .entry)))) ⌝ }
+    ensures buffers { λ _. ⌜ four (now (vertices .entry)) (now (normals .entry)) (now (uvs .exit)) (now (indices .entry)) ≡ textureScaled (countsIn counts) (vec2Of by) (four (now (vertices .entry)) (now (normals .entry)) (now (uvs .entry)) (now (indices .entry))) ⌝ }
+{
+    crate::told::tell(mesh::stored::texture_scale(
+        crate::given::counts_in(counts),
+        crate::given::vec2_of(by),
+        vertices,
+        normals,
+        uvs,
+        indices,
+    ))
+}
+
+// The middle of the positions.
+#[no_mangle]
+pub extern "C" fn hosirekar_centroid(
+    counts: CCounts,
+    vertices: &[f32],
+    normals: &[f32],
+    uvs: &[f32],
+    indices: &[u16],
+) -> CCentroid
+    ensures { λ r. ⌜ r ≡ toldCentroid (centroidOf (countsIn counts) (four (now (vertices .entry)) (now (normals .entry)) (now (uvs .entry)) (now (indices .entry)))) ⌝ }
+{
+    tell_centroid(mesh::stored::centroid(
+        crate::given::counts_in(counts),
+        vertices,
+        normals,
+        uvs,
+        indices,
+    ))
+}
+
+// The middle of the uvs.
+#[no_mangle]
+pub extern "C" fn hosirekar_uv_centroid(
+    counts: CCounts,
+    vertices: &[f32],
+    normals: &[f32],
+    uvs: &[f32],
+    indices: &[u16],
+) -> CUvCentroid
+    ensures { λ r. ⌜ r ≡ toldUvCentroid (uvCentroidOf (countsIn counts) (four (now (vertices .entry)) (now (normals .entry)) (now (uvs .entry)) (now (indices .entry)))) ⌝ }
+{
+    tell_uv_centroid(mesh::stored::uv_centroid(
+        crate::given::counts_in(counts),
+        vertices,
+        normals,
+        uvs,
+        indices,
+    ))
+}

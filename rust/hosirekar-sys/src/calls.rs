@@ -1,0 +1,420 @@
+//! The safe functions over the declarations that take lists.
+//!
+//! Every `unsafe` block here has the same grounds. The function is proved for every input, so its
+//! only demand is that each pointer with its length is a list: it comes from a slice that is
+//! borrowed until the call is over, for writing where the function writes, and so overlaps no other.
+#![allow(clippy::too_many_arguments)]
+use crate::{raw, structs::*};
+
+/// The counts of a plane, or why it is refused.
+#[inline]
+pub fn hosirekar_plane_plan(
+    job: CPlane,
+    corners: &[f32],
+    numbers: &[f32],
+    marks: &[u8],
+) -> CAnswer {
+    unsafe {
+        raw::hosirekar_plane_plan(
+            job,
+            corners.as_ptr(),
+            corners.len(),
+            numbers.as_ptr(),
+            numbers.len(),
+            marks.as_ptr(),
+            marks.len(),
+        )
+    }
+}
+
+/// A whole plane, written to four buffers, or nothing.
+#[inline]
+pub fn hosirekar_plane_build(
+    job: CPlane,
+    corners: &[f32],
+    numbers: &[f32],
+    marks: &[u8],
+    vertices: &mut [f32],
+    normals: &mut [f32],
+    uvs: &mut [f32],
+    indices: &mut [u16],
+) -> CAnswer {
+    unsafe {
+        raw::hosirekar_plane_build(
+            job,
+            corners.as_ptr(),
+            corners.len(),
+            numbers.as_ptr(),
+            numbers.len(),
+            marks.as_ptr(),
+            marks.len(),
+            vertices.as_mut_ptr(),
+            vertices.len(),
+            normals.as_mut_ptr(),
+            normals.len(),
+            uvs.as_mut_ptr(),
+            uvs.len(),
+            indices.as_mut_ptr(),
+            indices.len(),
+        )
+    }
+}
+
+/// The face of a plane, which has one: that of number 0.
+#[inline]
+pub fn hosirekar_plane_face(
+    job: CPlane,
+    corners: &[f32],
+    numbers: &[f32],
+    marks: &[u8],
+    number: usize,
+    vertices: &mut [f32],
+    normals: &mut [f32],
+    uvs: &mut [f32],
+    indices: &mut [u16],
+) -> CAnswer {
+    unsafe {
+        raw::hosirekar_plane_face(
+            job,
+            corners.as_ptr(),
+            corners.len(),
+            numbers.as_ptr(),
+            numbers.len(),
+            marks.as_ptr(),
+            marks.len(),
+            number,
+            vertices.as_mut_ptr(),
+            vertices.len(),
+            normals.as_mut_ptr(),
+            normals.len(),
+            uvs.as_mut_ptr(),
+            uvs.len(),
+            indices.as_mut_ptr(),
+            indices.len(),
+        )
+    }
+}
+
+/// The counts of a column, or why it is refused.
+#[inline]
+pub fn hosirekar_column_plan(
+    job: CColumn,
+    pairs: &[f32],
+    corners: &[f32],
+    numbers: &[f32],
+    marks: &[u8],
+) -> CAnswer {
+    unsafe {
+        raw::hosirekar_column_plan(
+            job,
+            pairs.as_ptr(),
+            pairs.len(),
+            corners.as_ptr(),
+            corners.len(),
+            numbers.as_ptr(),
+            numbers.len(),
+            marks.as_ptr(),
+            marks.len(),
+        )
+    }
+}
+
+/// A whole column, written to four buffers, or nothing.
+#[inline]
+pub fn hosirekar_column_build(
+    job: CColumn,
+    pairs: &[f32],
+    corners: &[f32],
+    numbers: &[f32],
+    marks: &[u8],
+    vertices: &mut [f32],
+    normals: &mut [f32],
+    uvs: &mut [f32],
+    indices: &mut [u16],
+) -> CAnswer {
+    unsafe {
+        raw::hosirekar_column_build(
+            job,
+            pairs.as_ptr(),
+            pairs.len(),
+            corners.as_ptr(),
+            corners.len(),
+            numbers.as_ptr(),
+            numbers.len(),
+            marks.as_ptr(),
+            marks.len(),
+            vertices.as_mut_ptr(),
+            vertices.len(),
+            normals.as_mut_ptr(),
+            normals.len(),
+            uvs.as_mut_ptr(),
+            uvs.len(),
+            indices.as_mut_ptr(),
+            indices.len(),
+        )
+    }
+}
+
+/// One face of a column: the sides' parts first, then the top, then the bottom.
+#[inline]
+pub fn hosirekar_column_face(
+    job: CColumn,
+    pairs: &[f32],
+    corners: &[f32],
+    numbers: &[f32],
+    marks: &[u8],
+    number: usize,
+    vertices: &mut [f32],
+    normals: &mut [f32],
+    uvs: &mut [f32],
+    indices: &mut [u16],
+) -> CAnswer {
+    unsafe {
+        raw::hosirekar_column_face(
+            job,
+            pairs.as_ptr(),
+            pairs.len(),
+            corners.as_ptr(),
+            corners.len(),
+            numbers.as_ptr(),
+            numbers.len(),
+            marks.as_ptr(),
+            marks.len(),
+            number,
+            vertices.as_mut_ptr(),
+            vertices.len(),
+            normals.as_mut_ptr(),
+            normals.len(),
+            uvs.as_mut_ptr(),
+            uvs.len(),
+            indices.as_mut_ptr(),
+            indices.len(),
+        )
+    }
+}
+
+/// The counts of a cheap column, or why it is refused.
+#[inline]
+pub fn hosirekar_cheap_column_plan(job: CCheapColumn, corners: &[f32]) -> CAnswer {
+    unsafe { raw::hosirekar_cheap_column_plan(job, corners.as_ptr(), corners.len()) }
+}
+
+/// A whole cheap column, written to four buffers, or nothing.
+#[inline]
+pub fn hosirekar_cheap_column_build(
+    job: CCheapColumn,
+    corners: &[f32],
+    vertices: &mut [f32],
+    normals: &mut [f32],
+    uvs: &mut [f32],
+    indices: &mut [u16],
+) -> CAnswer {
+    unsafe {
+        raw::hosirekar_cheap_column_build(
+            job,
+            corners.as_ptr(),
+            corners.len(),
+            vertices.as_mut_ptr(),
+            vertices.len(),
+            normals.as_mut_ptr(),
+            normals.len(),
+            uvs.as_mut_ptr(),
+            uvs.len(),
+            indices.as_mut_ptr(),
+            indices.len(),
+        )
+    }
+}
+
+/// The face of a cheap column, which has one: that of number 0.
+#[inline]
+pub fn hosirekar_cheap_column_face(
+    job: CCheapColumn,
+    corners: &[f32],
+    number: usize,
+    vertices: &mut [f32],
+    normals: &mut [f32],
+    uvs: &mut [f32],
+    indices: &mut [u16],
+) -> CAnswer {
+    unsafe {
+        raw::hosirekar_cheap_column_face(
+            job,
+            corners.as_ptr(),
+            corners.len(),
+            number,
+            vertices.as_mut_ptr(),
+            vertices.len(),
+            normals.as_mut_ptr(),
+            normals.len(),
+            uvs.as_mut_ptr(),
+            uvs.len(),
+            indices.as_mut_ptr(),
+            indices.len(),
+        )
+    }
+}
+
+/// Appends a source mesh to a target, or writes nothing.
+#[inline]
+pub fn hosirekar_merge(
+    source: CCounts,
+    svertices: &[f32],
+    snormals: &[f32],
+    suvs: &[f32],
+    sindices: &[u16],
+    target: CCounts,
+    vertices: &mut [f32],
+    normals: &mut [f32],
+    uvs: &mut [f32],
+    indices: &mut [u16],
+) -> CAnswer {
+    unsafe {
+        raw::hosirekar_merge(
+            source,
+            svertices.as_ptr(),
+            svertices.len(),
+            snormals.as_ptr(),
+            snormals.len(),
+            suvs.as_ptr(),
+            suvs.len(),
+            sindices.as_ptr(),
+            sindices.len(),
+            target,
+            vertices.as_mut_ptr(),
+            vertices.len(),
+            normals.as_mut_ptr(),
+            normals.len(),
+            uvs.as_mut_ptr(),
+            uvs.len(),
+            indices.as_mut_ptr(),
+            indices.len(),
+        )
+    }
+}
+
+/// Multiplies each position, component by component, or writes nothing.
+#[inline]
+pub fn hosirekar_scale(
+    counts: CCounts,
+    by: CVec3,
+    vertices: &mut [f32],
+    normals: &[f32],
+    uvs: &[f32],
+    indices: &[u16],
+) -> CAnswer {
+    unsafe {
+        raw::hosirekar_scale(
+            counts,
+            by,
+            vertices.as_mut_ptr(),
+            vertices.len(),
+            normals.as_ptr(),
+            normals.len(),
+            uvs.as_ptr(),
+            uvs.len(),
+            indices.as_ptr(),
+            indices.len(),
+        )
+    }
+}
+
+/// Adds to each position, or writes nothing.
+#[inline]
+pub fn hosirekar_offset(
+    counts: CCounts,
+    by: CVec3,
+    vertices: &mut [f32],
+    normals: &[f32],
+    uvs: &[f32],
+    indices: &[u16],
+) -> CAnswer {
+    unsafe {
+        raw::hosirekar_offset(
+            counts,
+            by,
+            vertices.as_mut_ptr(),
+            vertices.len(),
+            normals.as_ptr(),
+            normals.len(),
+            uvs.as_ptr(),
+            uvs.len(),
+            indices.as_ptr(),
+            indices.len(),
+        )
+    }
+}
+
+/// Multiplies each uv, component by component, or writes nothing.
+#[inline]
+pub fn hosirekar_texture_scale(
+    counts: CCounts,
+    by: CVec2,
+    vertices: &[f32],
+    normals: &[f32],
+    uvs: &mut [f32],
+    indices: &[u16],
+) -> CAnswer {
+    unsafe {
+        raw::hosirekar_texture_scale(
+            counts,
+            by,
+            vertices.as_ptr(),
+            vertices.len(),
+            normals.as_ptr(),
+            normals.len(),
+            uvs.as_mut_ptr(),
+            uvs.len(),
+            indices.as_ptr(),
+            indices.len(),
+        )
+    }
+}
+
+/// The middle of the positions.
+#[inline]
+pub fn hosirekar_centroid(
+    counts: CCounts,
+    vertices: &[f32],
+    normals: &[f32],
+    uvs: &[f32],
+    indices: &[u16],
+) -> CCentroid {
+    unsafe {
+        raw::hosirekar_centroid(
+            counts,
+            vertices.as_ptr(),
+            vertices.len(),
+            normals.as_ptr(),
+            normals.len(),
+            uvs.as_ptr(),
+            uvs.len(),
+            indices.as_ptr(),
+            indices.len(),
+        )
+    }
+}
+
+/// The middle of the uvs.
+#[inline]
+pub fn hosirekar_uv_centroid(
+    counts: CCounts,
+    vertices: &[f32],
+    normals: &[f32],
+    uvs: &[f32],
+    indices: &[u16],
+) -> CUvCentroid {
+    unsafe {
+        raw::hosirekar_uv_centroid(
+            counts,
+            vertices.as_ptr(),
+            vertices.len(),
+            normals.as_ptr(),
+            normals.len(),
+            uvs.as_ptr(),
+            uvs.len(),
+            indices.as_ptr(),
+            indices.len(),
+        )
+    }
+}

@@ -1,0 +1,192 @@
+//! What goes over by value. Where something may be left out, a `bool` says whether it is given, and
+//! what stands beside a `false` is not read.
+
+/// A pair: a uv, or x and z of a point.
+#[repr(C)]
+#[derive(Clone, Copy, Debug, Default, PartialEq)]
+pub struct CVec2 {
+    /// The first of the two.
+    pub x: f32,
+    /// The second, which is z of a point.
+    pub y: f32,
+}
+
+/// Three components of a position, an offset or a scale.
+#[repr(C)]
+#[derive(Clone, Copy, Debug, Default, PartialEq)]
+pub struct CVec3 {
+    /// Along x.
+    pub x: f32,
+    /// Upwards.
+    pub y: f32,
+    /// Along z.
+    pub z: f32,
+}
+
+/// How many vertices and indices a stored mesh has; its lists may be longer.
+#[repr(C)]
+#[derive(Clone, Copy, Debug, Default, PartialEq, Eq)]
+pub struct CCounts {
+    /// Three numbers each in the vertices and the normals, two in the uvs.
+    pub vertices: usize,
+    /// One number each.
+    pub indices: usize,
+}
+
+/// A scale or an offset, if given.
+#[repr(C)]
+#[derive(Clone, Copy, Debug, Default, PartialEq)]
+pub struct CChoice3 {
+    /// Whether it is.
+    pub given: bool,
+    /// What is given.
+    pub value: CVec3,
+}
+
+/// A turn by nine numbers, row by row, if given.
+#[repr(C)]
+#[derive(Clone, Copy, Debug, Default, PartialEq)]
+pub struct CTurn {
+    /// Whether it is.
+    pub given: bool,
+    /// The row that gives x.
+    pub first: CVec3,
+    /// The row that gives y.
+    pub second: CVec3,
+    /// The row that gives z.
+    pub third: CVec3,
+}
+
+/// Where a mesh stands: scaled, then turned, then moved.
+#[repr(C)]
+#[derive(Clone, Copy, Debug, Default, PartialEq)]
+pub struct CPlacement {
+    /// Of positions alone.
+    pub scale: CChoice3,
+    /// Of positions and normals.
+    pub turn: CTurn,
+    /// Added to the job's position.
+    pub offset: CChoice3,
+}
+
+/// A number, 0 where the call was done and else that of a refusal, and the counts.
+#[repr(C)]
+#[derive(Clone, Copy, Debug, Default, PartialEq, Eq)]
+pub struct CAnswer {
+    /// 0, or why nothing was written.
+    pub number: u32,
+    /// 0.
+    pub spare: u32,
+    /// 0 where the call was refused.
+    pub vertices: usize,
+    /// 0 where the call was refused.
+    pub indices: usize,
+}
+
+/// A plane.
+#[repr(C)]
+#[derive(Clone, Copy, Debug, Default, PartialEq)]
+pub struct CPlane {
+    /// Where it stands, x and z.
+    pub position: CVec2,
+    /// The number of its option, or 255 for the default.
+    pub option: u8,
+    /// Where it is put then.
+    pub placement: CPlacement,
+}
+
+/// A face, if given.
+#[repr(C)]
+#[derive(Clone, Copy, Debug, Default, PartialEq, Eq)]
+pub struct CChoice {
+    /// Whether it is.
+    pub given: bool,
+    /// The number of its option, or 255 for the default.
+    pub option: u8,
+}
+
+/// How many parts a side has, if given; 0 is one part, as none given is.
+#[repr(C)]
+#[derive(Clone, Copy, Debug, Default, PartialEq, Eq)]
+pub struct CSubdivisions {
+    /// Whether it is.
+    pub given: bool,
+    /// How many.
+    pub number: u32,
+}
+
+/// A column.
+#[repr(C)]
+#[derive(Clone, Copy, Debug, Default, PartialEq)]
+pub struct CColumn {
+    /// Of its top.
+    pub height: f32,
+    /// The parts of each side.
+    pub subdivisions: CSubdivisions,
+    /// Its sides, in the order of their ends in the list of pairs.
+    pub sides: [CChoice; 6],
+    /// The cap at its height.
+    pub top: CChoice,
+    /// The cap at height 0.
+    pub bottom: CChoice,
+    /// Where it stands, x and z.
+    pub position: CVec2,
+    /// Where it is put then.
+    pub placement: CPlacement,
+}
+
+/// A cheap column.
+#[repr(C)]
+#[derive(Clone, Copy, Debug, Default, PartialEq)]
+pub struct CCheapColumn {
+    /// The middle of its hexagon, x and z.
+    pub centre: CVec2,
+    /// Of its top.
+    pub height: f32,
+}
+
+/// An answer, and the middle of the positions: +0 where the call was refused.
+#[repr(C)]
+#[derive(Clone, Copy, Debug, Default, PartialEq)]
+pub struct CCentroid {
+    /// The counts are those that were handed over.
+    pub answer: CAnswer,
+    /// The middle.
+    pub centroid: CVec3,
+}
+
+/// An answer, and the middle of the uvs: +0 where the call was refused.
+#[repr(C)]
+#[derive(Clone, Copy, Debug, Default, PartialEq)]
+pub struct CUvCentroid {
+    /// The counts are those that were handed over.
+    pub answer: CAnswer,
+    /// The middle.
+    pub centroid: CVec2,
+}
+
+/// Which components of a uv are mirrored.
+#[repr(C)]
+#[derive(Clone, Copy, Debug, Default, PartialEq, Eq)]
+pub struct CFlip {
+    /// The first.
+    pub u: bool,
+    /// The second.
+    pub v: bool,
+}
+
+/// What is done to a uv: flipped, scaled, moved and laid into a rectangle.
+#[repr(C)]
+#[derive(Clone, Copy, Debug, Default, PartialEq)]
+pub struct CUvOptions {
+    /// Times.
+    pub scale: CVec2,
+    /// Plus.
+    pub offset: CVec2,
+    /// The least corner of the rectangle.
+    pub min: CVec2,
+    /// The greatest corner of the rectangle.
+    pub max: CVec2,
+    /// First of all.
+    pub flip: CFlip,
+}
