@@ -1,0 +1,73 @@
+//! What every job can be asked.
+
+use crate::{Counts, Mesh, MeshBuffers, Refusal};
+
+/// A [`Plane`](crate::Plane), a [`Column`](crate::Column) or a [`CheapColumn`](crate::CheapColumn).
+pub trait Job {
+    /// How many vertices and indices the whole mesh has.
+    ///
+    /// # Errors
+    ///
+    /// [`Range`](Refusal::Range), [`Limit`](Refusal::Limit).
+    fn plan(&self) -> Result<Counts, Refusal>;
+
+    /// Writes the whole mesh to the front of lent buffers; what lies past the counts stays.
+    ///
+    /// ```
+    /// use hosirekar::{Job, MeshBuffers, Plane};
+    ///
+    /// let corners = [[2.0, 0.0], [1.0, 2.0], [-1.0, 2.0], [-2.0, 0.0], [-1.0, -2.0], [1.0, -2.0]];
+    /// let (mut vertices, mut normals) = ([[9.0; 3]; 8], [[9.0; 3]; 8]);
+    /// let (mut uvs, mut indices) = ([[9.0; 2]; 8], [9; 16]);
+    /// let mut buffers = MeshBuffers {
+    ///     vertices: &mut vertices,
+    ///     normals: &mut normals,
+    ///     uvs: &mut uvs,
+    ///     indices: &mut indices,
+    /// };
+    /// let counts = Plane::new(corners).build_into(&mut buffers)?;
+    /// assert_eq!((counts.vertices, counts.indices), (6, 12));
+    /// assert_eq!(vertices[5..7], [[1.0, 0.0, -2.0], [9.0; 3]]);
+    /// # Ok::<(), hosirekar::Refusal>(())
+    /// ```
+    ///
+    /// # Errors
+    ///
+    /// [`Range`](Refusal::Range), [`Limit`](Refusal::Limit), [`Room`](Refusal::Room).
+    fn build_into(&self, to: &mut MeshBuffers<'_>) -> Result<Counts, Refusal>;
+
+    /// Writes one face to its places in the whole mesh, and nothing else. The counts are those of
+    /// the whole mesh, for which the buffers must have room.
+    ///
+    /// ```
+    /// use hosirekar::{Column, Job, Mesh, Refusal};
+    ///
+    /// let corners = [[2.0, 0.0], [1.0, 2.0], [-1.0, 2.0], [-2.0, 0.0], [-1.0, -2.0], [1.0, -2.0]];
+    /// let column = Column::new(corners, 5.0);
+    /// let mut mesh = Mesh::zeroed(column.plan()?);
+    /// // Any order will do, and a face may be written twice.
+    /// for face in [7, 0, 3, 6, 2, 1, 3, 5, 4] {
+    ///     column.build_face(face, &mut mesh.buffers())?;
+    /// }
+    /// assert_eq!(column.build_face(8, &mut mesh.buffers()), Err(Refusal::NoFace));
+    /// assert_eq!(mesh, column.build()?);
+    /// # Ok::<(), hosirekar::Refusal>(())
+    /// ```
+    ///
+    /// # Errors
+    ///
+    /// [`Range`](Refusal::Range), [`Limit`](Refusal::Limit), [`NoFace`](Refusal::NoFace),
+    /// [`Room`](Refusal::Room).
+    fn build_face(&self, face: usize, to: &mut MeshBuffers<'_>) -> Result<Counts, Refusal>;
+
+    /// The whole mesh, in lists of exactly the planned lengths.
+    ///
+    /// # Errors
+    ///
+    /// [`Range`](Refusal::Range), [`Limit`](Refusal::Limit).
+    fn build(&self) -> Result<Mesh, Refusal> {
+        let mut mesh = Mesh::zeroed(self.plan()?);
+        self.build_into(&mut mesh.buffers())?;
+        Ok(mesh)
+    }
+}

@@ -1,0 +1,74 @@
+//! Meshes of hexagon planes and columns, in the manner of hexx, over functions that are proved.
+//!
+//! A job says what is wanted: a [`Plane`], a [`Column`] or a [`CheapColumn`]. All that it can be
+//! asked stands in the trait [`Job`]: [`plan`](Job::plan) counts without a mesh,
+//! [`build`](Job::build) makes one, [`build_into`](Job::build_into) writes it to buffers that you
+//! lend, and [`build_face`](Job::build_face) writes one face of it.
+//!
+//! ```
+//! use hosirekar::{Column, Counts, FaceOptions, InsetOptions, Job, Refusal};
+//!
+//! fn main() -> Result<(), Refusal> {
+//!     // Corners about the middle of the hexagon, x and z.
+//!     let corners = [[2.0, 0.0], [1.0, 2.0], [-1.0, 2.0], [-2.0, 0.0], [-1.0, -2.0], [1.0, -2.0]];
+//!     let inset = InsetOptions { scale: 0.2, keep_inner_face: true, ..Default::default() };
+//!     let top = Some(FaceOptions { insetting: Some(inset), ..Default::default() });
+//!     let column = Column { top, bottom: None, position: [10.0, 0.0], ..Column::new(corners, 3.0) };
+//!     assert_eq!(column.plan()?, Counts { vertices: 36, indices: 84 });
+//!     let mut mesh = column.build()?;
+//!     mesh.merge_with(&Column { position: [0.0, 0.0], ..column }.build()?)?;
+//!     assert_eq!(mesh.centroid()?, [5.0, 2.0, 0.0]);
+//!     Ok(())
+//! }
+//! ```
+//!
+//! # Refusals
+//!
+//! No call panics and none half succeeds. A call that is refused says why with a [`Refusal`] and
+//! leaves everything as it was. Every number of a job must be finite and at most 1,000,000 either
+//! way, and a mesh has at most 65,536 vertices.
+//!
+//! ```
+//! use hosirekar::{Column, Job, Refusal};
+//!
+//! let tall = Column { subdivisions: Some(2_731), ..Column::default() };
+//! assert_eq!(tall.build(), Err(Refusal::Limit));
+//! ```
+//!
+//! # Corners
+//!
+//! No layout of a grid is here: a job is handed its corners, each an x and a z. Planes and columns
+//! take the corners about the middle of the hexagon, centre-aligned, and their position apart. The
+//! cheap column takes the hexagon's own corners, where it stands. The example `grid` has a small
+//! layout for flat and pointy hexagons.
+//!
+//! A user of hexx has them from a `HexLayout`, a point `p` as `[p.x, p.y]`, and the rest from what
+//! the builder was given:
+//!
+//! | here | in hexx |
+//! |---|---|
+//! | [`Plane::corners`], [`Column::cap_corners`] | `layout.center_aligned_hex_corners()` |
+//! | [`Column::side_ends`] | `layout.hex_edge_corners(Hex::ZERO)`, of a layout with its origin at zero |
+//! | [`Plane::position`], [`Column::position`] | `layout.hex_to_world_pos(pos)`; after `center_aligned()`, of a layout with its origin at zero |
+//! | [`CheapColumn::corners`], [`CheapColumn::centre`] | `layout.hex_corners(hex)`, `layout.hex_to_world_pos(hex)` |
+//! | [`Plane::options`] | `face_options` |
+//! | [`Column::sides`], [`Column::top`], [`Column::bottom`] | `sides_options`, and the `face_options` of `top_face` and `bottom_face` |
+//! | [`Plane::rotation`], [`Column::rotation`] | `Mat3::from_quat(rotation).transpose().to_cols_array_2d()` |
+#![forbid(unsafe_code)]
+
+mod cheap_column;
+mod column;
+mod job;
+mod mesh;
+mod options;
+mod placement;
+mod plane;
+mod refusal;
+
+pub use cheap_column::CheapColumn;
+pub use column::Column;
+pub use job::Job;
+pub use mesh::{Counts, Mesh, MeshBuffers};
+pub use options::{FaceOptions, InsetOptions, InsetScaleMode, Rect, UVOptions};
+pub use plane::Plane;
+pub use refusal::Refusal;

@@ -1,0 +1,263 @@
+//! A mesh, the buffers that one is written to, and what is done with one that is made.
+
+use crate::placement::{vec2, vec3};
+use crate::refusal::answered;
+use crate::Refusal;
+use hosirekar_sys::{
+    hosirekar_centroid, hosirekar_merge, hosirekar_offset, hosirekar_scale,
+    hosirekar_texture_scale, hosirekar_uv_centroid, CCounts,
+};
+
+/// How many vertices and indices a mesh has.
+#[derive(Clone, Copy, Debug, Default, PartialEq, Eq, Hash)]
+pub struct Counts {
+    /// As many normals and uvs belong to them.
+    pub vertices: usize,
+    /// Three for each triangle.
+    pub indices: usize,
+}
+
+/// A mesh: a position, a normal and a uv for each vertex, and triangles by vertex numbers.
+///
+/// The number of its positions is that of its vertices. Where the normals or the uvs are not as
+/// many, every call on the mesh is refused as a [`Shape`](Refusal::Shape).
+///
+/// ```
+/// use hosirekar::{CheapColumn, Job, Plane};
+///
+/// let corners = [[2.0, 0.0], [1.0, 2.0], [-1.0, 2.0], [-2.0, 0.0], [-1.0, -2.0], [1.0, -2.0]];
+/// let mut mesh = Plane::new(corners).build()?.with_offset([0.0, 4.5, 0.0])?;
+/// mesh.merge_with(&CheapColumn { corners, ..CheapColumn::default() }.build()?)?;
+/// assert_eq!((mesh.vertices.len(), mesh.indices.len()), (18, 60));
+/// // The first triangle of the merged mesh, 0 2 1, now names its own vertices.
+/// assert_eq!(mesh.indices[12..15], [6, 8, 7]);
+/// assert_eq!(mesh.centroid()?, [0.0, 1.5, 0.0]);
+/// # Ok::<(), hosirekar::Refusal>(())
+/// ```
+#[derive(Clone, Debug, Default, PartialEq)]
+pub struct Mesh {
+    /// The positions.
+    pub vertices: Vec<[f32; 3]>,
+    /// The normal of each vertex.
+    pub normals: Vec<[f32; 3]>,
+    /// The uv of each vertex.
+    pub uvs: Vec<[f32; 2]>,
+    /// Three vertex numbers for each triangle.
+    pub indices: Vec<u16>,
+}
+
+/// Four lists that are lent to be written to. They may be longer than the mesh.
+#[derive(Debug)]
+pub struct MeshBuffers<'a> {
+    /// For the positions.
+    pub vertices: &'a mut [[f32; 3]],
+    /// For the normals.
+    pub normals: &'a mut [[f32; 3]],
+    /// For the uvs.
+    pub uvs: &'a mut [[f32; 2]],
+    /// For the indices.
+    pub indices: &'a mut [u16],
+}
+
+impl Mesh {
+    /// A mesh of so many vertices and indices, all 0, to be written to.
+    #[must_use]
+    pub fn zeroed(counts: Counts) -> Self {
+        let mut mesh = Mesh::default();
+        mesh.resize(counts);
+        mesh
+    }
+
+    /// Its lists, lent.
+    pub fn buffers(&mut self) -> MeshBuffers<'_> {
+        MeshBuffers {
+            vertices: &mut self.vertices,
+            normals: &mut self.normals,
+            uvs: &mut self.uvs,
+            indices: &mut self.indices,
+        }
+    }
+
+    /// How many vertices and indices it has.
+    ///
+    /// # Errors
+    ///
+    /// [`Shape`](Refusal::Shape).
+    pub fn counts(&self) -> Result<Counts, Refusal> {
+        let vertices = self.vertices.len();
+        if self.normals.len() != vertices || self.uvs.len() != vertices {
+            return Err(Refusal::Shape);
+        }
+        Ok(Counts {
+            vertices,
+            indices: self.indices.len(),
+        })
+    }
+
+    /// Appends a mesh. Its indices are raised so that its triangles stay.
+    ///
+    /// # Errors
+    ///
+    /// [`Shape`](Refusal::Shape) of either, [`Index`](Refusal::Index) of the one appended,
+    /// [`Limit`](Refusal::Limit).
+    pub fn merge_with(&mut self, rhs: &Mesh) -> Result<Counts, Refusal> {
+        let (target, source) = (self.counts()?, rhs.counts()?);
+        // Without more room the call says whether room is all that is wanting.
+        match self.merge_at(target, rhs, source) {
+            Err(Refusal::Room) => {
+                self.resize(Counts {
+                    vertices: target.vertices + source.vertices,
+                    indices: target.indices + source.indices,
+                });
+                self.merge_at(target, rhs, source)
+            }
+            answer => answer,
+        }
+    }
+
+    /// Multiplies each position.
+    ///
+    /// # Errors
+    ///
+    /// [`Shape`](Refusal::Shape), [`Range`](Refusal::Range) of the scale, [`Limit`](Refusal::Limit).
+    pub fn scale(&mut self, scale: [f32; 3]) -> Result<Counts, Refusal> {
+        answered(hosirekar_scale(
+            self.stored()?,
+            vec3(scale),
+            self.vertices.as_flattened_mut(),
+            self.normals.as_flattened(),
+            self.uvs.as_flattened(),
+            &self.indices,
+        ))
+    }
+
+    /// Adds to each position.
+    ///
+    /// # Errors
+    ///
+    /// [`Shape`](Refusal::Shape), [`Range`](Refusal::Range) of the offset, [`Limit`](Refusal::Limit).
+    pub fn offset(&mut self, offset: [f32; 3]) -> Result<Counts, Refusal> {
+        answered(hosirekar_offset(
+            self.stored()?,
+            vec3(offset),
+            self.vertices.as_flattened_mut(),
+            self.normals.as_flattened(),
+            self.uvs.as_flattened(),
+            &self.indices,
+        ))
+    }
+
+    /// Multiplies each uv.
+    ///
+    /// # Errors
+    ///
+    /// [`Shape`](Refusal::Shape), [`Range`](Refusal::Range) of the scale, [`Limit`](Refusal::Limit).
+    pub fn uv_scale(&mut self, scale: [f32; 2]) -> Result<Counts, Refusal> {
+        answered(hosirekar_texture_scale(
+            self.stored()?,
+            vec2(scale),
+            self.vertices.as_flattened(),
+            self.normals.as_flattened(),
+            self.uvs.as_flattened_mut(),
+            &self.indices,
+        ))
+    }
+
+    /// The mesh with each position multiplied; [`scale`](Mesh::scale) keeps it where it is refused.
+    ///
+    /// # Errors
+    ///
+    /// Those of [`scale`](Mesh::scale).
+    pub fn with_scale(mut self, scale: [f32; 3]) -> Result<Self, Refusal> {
+        self.scale(scale).map(|_| self)
+    }
+
+    /// The mesh with each position moved; [`offset`](Mesh::offset) keeps it where it is refused.
+    ///
+    /// # Errors
+    ///
+    /// Those of [`offset`](Mesh::offset).
+    pub fn with_offset(mut self, offset: [f32; 3]) -> Result<Self, Refusal> {
+        self.offset(offset).map(|_| self)
+    }
+
+    /// The mesh with each uv multiplied; [`uv_scale`](Mesh::uv_scale) keeps it where it is refused.
+    ///
+    /// # Errors
+    ///
+    /// Those of [`uv_scale`](Mesh::uv_scale).
+    pub fn with_uv_scale(mut self, scale: [f32; 2]) -> Result<Self, Refusal> {
+        self.uv_scale(scale).map(|_| self)
+    }
+
+    /// The middle of the positions: their sum, divided by how many they are.
+    ///
+    /// # Errors
+    ///
+    /// [`Shape`](Refusal::Shape), [`Limit`](Refusal::Limit), [`Empty`](Refusal::Empty).
+    pub fn centroid(&self) -> Result<[f32; 3], Refusal> {
+        let answer = hosirekar_centroid(
+            self.stored()?,
+            self.vertices.as_flattened(),
+            self.normals.as_flattened(),
+            self.uvs.as_flattened(),
+            &self.indices,
+        );
+        answered(answer.answer)?;
+        let middle = answer.centroid;
+        Ok([middle.x, middle.y, middle.z])
+    }
+
+    /// The middle of the uvs: their sum, divided by how many they are.
+    ///
+    /// # Errors
+    ///
+    /// [`Shape`](Refusal::Shape), [`Limit`](Refusal::Limit), [`Empty`](Refusal::Empty).
+    pub fn uv_centroid(&self) -> Result<[f32; 2], Refusal> {
+        let answer = hosirekar_uv_centroid(
+            self.stored()?,
+            self.vertices.as_flattened(),
+            self.normals.as_flattened(),
+            self.uvs.as_flattened(),
+            &self.indices,
+        );
+        answered(answer.answer)?;
+        let middle = answer.centroid;
+        Ok([middle.x, middle.y])
+    }
+
+    fn resize(&mut self, counts: Counts) {
+        self.vertices.resize(counts.vertices, [0.0; 3]);
+        self.normals.resize(counts.vertices, [0.0; 3]);
+        self.uvs.resize(counts.vertices, [0.0; 2]);
+        self.indices.resize(counts.indices, 0);
+    }
+
+    fn merge_at(&mut self, at: Counts, rhs: &Mesh, source: Counts) -> Result<Counts, Refusal> {
+        answered(hosirekar_merge(
+            source.into(),
+            rhs.vertices.as_flattened(),
+            rhs.normals.as_flattened(),
+            rhs.uvs.as_flattened(),
+            &rhs.indices,
+            at.into(),
+            self.vertices.as_flattened_mut(),
+            self.normals.as_flattened_mut(),
+            self.uvs.as_flattened_mut(),
+            &mut self.indices,
+        ))
+    }
+
+    fn stored(&self) -> Result<CCounts, Refusal> {
+        self.counts().map(CCounts::from)
+    }
+}
+
+impl From<Counts> for CCounts {
+    fn from(counts: Counts) -> Self {
+        CCounts {
+            vertices: counts.vertices,
+            indices: counts.indices,
+        }
+    }
+}

@@ -1,0 +1,106 @@
+//! A plane.
+
+use crate::options::Table;
+use crate::placement::{placement, vec2};
+use crate::refusal::answered;
+use crate::{Counts, FaceOptions, Job, MeshBuffers, Refusal};
+use hosirekar_sys::{hosirekar_plane_build, hosirekar_plane_face, hosirekar_plane_plan, CPlane};
+
+/// A hexagon that faces upwards, as hexx's `PlaneMeshBuilder` makes it. It is one face.
+///
+/// It is scaled, then turned, then moved by its position and offset. Its corners are
+/// centre-aligned: `HexLayout::center_aligned_hex_corners` gives them.
+///
+/// ```
+/// use hosirekar::{FaceOptions, InsetOptions, Job, Plane};
+///
+/// let corners = [[2.0, 0.0], [1.0, 2.0], [-1.0, 2.0], [-2.0, 0.0], [-1.0, -2.0], [1.0, -2.0]];
+/// let ring = InsetOptions { scale: 0.5, ..InsetOptions::default() };
+/// let plane = Plane {
+///     position: [10.0, 0.0],
+///     options: FaceOptions { insetting: Some(ring), ..FaceOptions::default() },
+///     ..Plane::new(corners)
+/// };
+/// let mesh = plane.build()?;
+/// assert_eq!((mesh.vertices.len(), mesh.indices.len()), (12, 36));
+/// assert_eq!([mesh.vertices[0], mesh.vertices[6]], [[12.0, 0.0, 0.0], [11.0, 0.0, 0.0]]);
+/// # Ok::<(), hosirekar::Refusal>(())
+/// ```
+#[derive(Clone, Copy, Debug, Default, PartialEq)]
+pub struct Plane {
+    /// The corners about the middle of the hexagon, x and z.
+    pub corners: [[f32; 2]; 6],
+    /// Where the middle goes, x and z.
+    pub position: [f32; 2],
+    /// What is done to the uvs, and the inset.
+    pub options: FaceOptions,
+    /// What positions are multiplied by.
+    pub scale: Option<[f32; 3]>,
+    /// Three rows that positions and normals are multiplied by. Any nine numbers serve.
+    pub rotation: Option<[[f32; 3]; 3]>,
+    /// What is added beside the position.
+    pub offset: Option<[f32; 3]>,
+}
+
+impl Plane {
+    /// A plane of these corners at (0, 0).
+    #[must_use]
+    pub fn new(corners: [[f32; 2]; 6]) -> Self {
+        Self {
+            corners,
+            ..Self::default()
+        }
+    }
+
+    fn job(&self, table: &mut Table) -> CPlane {
+        CPlane {
+            position: vec2(self.position),
+            option: table.add(&self.options),
+            placement: placement(self.scale, self.rotation, self.offset),
+        }
+    }
+}
+
+impl Job for Plane {
+    fn plan(&self) -> Result<Counts, Refusal> {
+        let mut table = Table::default();
+        let job = self.job(&mut table);
+        answered(hosirekar_plane_plan(
+            job,
+            self.corners.as_flattened(),
+            table.numbers(),
+            table.marks(),
+        ))
+    }
+
+    fn build_into(&self, to: &mut MeshBuffers<'_>) -> Result<Counts, Refusal> {
+        let mut table = Table::default();
+        let job = self.job(&mut table);
+        answered(hosirekar_plane_build(
+            job,
+            self.corners.as_flattened(),
+            table.numbers(),
+            table.marks(),
+            to.vertices.as_flattened_mut(),
+            to.normals.as_flattened_mut(),
+            to.uvs.as_flattened_mut(),
+            to.indices,
+        ))
+    }
+
+    fn build_face(&self, face: usize, to: &mut MeshBuffers<'_>) -> Result<Counts, Refusal> {
+        let mut table = Table::default();
+        let job = self.job(&mut table);
+        answered(hosirekar_plane_face(
+            job,
+            self.corners.as_flattened(),
+            table.numbers(),
+            table.marks(),
+            face,
+            to.vertices.as_flattened_mut(),
+            to.normals.as_flattened_mut(),
+            to.uvs.as_flattened_mut(),
+            to.indices,
+        ))
+    }
+}

@@ -1,0 +1,100 @@
+//! Why a call is refused.
+
+use crate::Counts;
+use hosirekar_sys::CAnswer;
+use std::fmt;
+
+/// Why a call was refused. It then wrote nothing.
+///
+/// ```
+/// use hosirekar::{Mesh, Refusal};
+///
+/// let why = Mesh::default().centroid().unwrap_err();
+/// assert_eq!((why, why.number()), (Refusal::Empty, 8));
+/// assert_eq!(why.to_string(), "the mesh has no vertices and so no centroid: build or merge into it first");
+/// ```
+#[derive(Clone, Copy, Debug, PartialEq, Eq, Hash)]
+#[repr(u8)]
+pub enum Refusal {
+    /// A list has the wrong length: a mesh has not one normal and one uv for each vertex.
+    Shape = 1,
+    /// A number is not finite, or above 1,000,000 either way.
+    Range = 2,
+    /// A neighbour is neither a cell nor none.
+    Neighbour = 3,
+    /// There would be more than 65,536 vertices.
+    Limit = 4,
+    /// A lent buffer is shorter than the whole mesh needs.
+    Room = 5,
+    /// The job has no face of that number.
+    NoFace = 6,
+    /// A mesh to be merged has an index that is none of its vertices.
+    Index = 7,
+    /// There is no centroid of no vertices.
+    Empty = 8,
+}
+
+impl Refusal {
+    /// All of them, by their numbers from 1.
+    pub const ALL: [Refusal; 8] = [
+        Refusal::Shape,
+        Refusal::Range,
+        Refusal::Neighbour,
+        Refusal::Limit,
+        Refusal::Room,
+        Refusal::NoFace,
+        Refusal::Index,
+        Refusal::Empty,
+    ];
+
+    /// Its number, 1 to 8.
+    #[must_use]
+    pub const fn number(self) -> u32 {
+        self as u32
+    }
+
+    /// The refusal of that number.
+    #[must_use]
+    pub fn from_number(number: u32) -> Option<Refusal> {
+        Refusal::ALL.into_iter().find(|why| why.number() == number)
+    }
+}
+
+impl fmt::Display for Refusal {
+    fn fmt(&self, f: &mut fmt::Formatter<'_>) -> fmt::Result {
+        f.write_str(match self {
+            Refusal::Shape => {
+                "the lists of a mesh do not fit together: give each vertex one normal and one uv"
+            }
+            Refusal::Range => {
+                "a number is out of range: make each finite and at most 1,000,000 either way"
+            }
+            Refusal::Neighbour => "a neighbour does not exist: name a cell of the map, or none",
+            Refusal::Limit => {
+                "more than 65,536 vertices: ask for fewer faces, parts or insets, or for several meshes"
+            }
+            Refusal::Room => "a buffer is too short: lend four with the room that the plan counts",
+            Refusal::NoFace => "the job has no face of that number: count its faces from 0",
+            Refusal::Index => {
+                "an index of the mesh to be merged names no vertex: keep indices below its vertex count"
+            }
+            Refusal::Empty => {
+                "the mesh has no vertices and so no centroid: build or merge into it first"
+            }
+        })
+    }
+}
+
+impl std::error::Error for Refusal {}
+
+/// The counts, or the refusal, that a call answered.
+pub(crate) fn answered(answer: CAnswer) -> Result<Counts, Refusal> {
+    if answer.number == 0 {
+        return Ok(Counts {
+            vertices: answer.vertices,
+            indices: answer.indices,
+        });
+    }
+    // The archive's promises give no other number.
+    Err(Refusal::from_number(answer.number).expect("an answer's number is at most 8"))
+}

@@ -1,0 +1,195 @@
+//! Each refusal: when it comes, its number, and that it leaves everything as it was.
+
+mod common;
+use common::*;
+use hosirekar::*;
+
+/// Every number of a plane.
+fn plane_numbers(plane: &mut Plane) -> Vec<&mut f32> {
+    let mut numbers: Vec<&mut f32> = plane.corners.as_flattened_mut().iter_mut().collect();
+    numbers.extend(&mut plane.position);
+    numbers.extend(option_numbers(&mut plane.options));
+    numbers.extend(plane.scale.as_mut().unwrap());
+    numbers.extend(plane.rotation.as_mut().unwrap().as_flattened_mut());
+    numbers.extend(plane.offset.as_mut().unwrap());
+    numbers
+}
+
+fn option_numbers(options: &mut FaceOptions) -> Vec<&mut f32> {
+    let uv = &mut options.uv;
+    let mut numbers: Vec<&mut f32> = uv.scale_factor.iter_mut().collect();
+    numbers.extend(&mut uv.offset);
+    numbers.extend(&mut uv.rect.min);
+    numbers.extend(&mut uv.rect.max);
+    numbers.extend(options.insetting.as_mut().map(|inset| &mut inset.scale));
+    numbers
+}
+
+/// Every number of a column, those of absent sides and caps too.
+fn column_numbers(column: &mut Column) -> Vec<&mut f32> {
+    let ends = column.side_ends.as_flattened_mut().as_flattened_mut();
+    let mut numbers: Vec<&mut f32> = ends.iter_mut().collect();
+    numbers.push(&mut column.height);
+    numbers.extend(column.cap_corners.as_flattened_mut());
+    numbers.extend(column.sides.iter_mut().flatten().flat_map(option_numbers));
+    numbers.extend(column.top.iter_mut().flat_map(option_numbers));
+    numbers.extend(column.bottom.iter_mut().flat_map(option_numbers));
+    numbers.extend(&mut column.position);
+    numbers.extend(column.scale.as_mut().unwrap());
+    numbers.extend(column.rotation.as_mut().unwrap().as_flattened_mut());
+    numbers.extend(column.offset.as_mut().unwrap());
+    numbers
+}
+
+fn cheap_column_numbers(column: &mut CheapColumn) -> Vec<&mut f32> {
+    let mut numbers: Vec<&mut f32> = column.corners.as_flattened_mut().iter_mut().collect();
+    numbers.extend(&mut column.centre);
+    numbers.push(&mut column.height);
+    numbers
+}
+
+/// Each number in turn at its limit, and past it.
+fn every_number_is_tested<J: Job + Copy>(job: J, numbers: fn(&mut J) -> Vec<&mut f32>) {
+    let counts = job.plan().unwrap();
+    let fresh = filled(counts.vertices, counts.indices);
+    let past = f32::from_bits(1_000_000f32.to_bits() + 1);
+    for k in 0..numbers(&mut job.clone()).len() {
+        let with = |x| {
+            let mut changed = job;
+            *numbers(&mut changed)[k] = x;
+            changed
+        };
+        for x in [1_000_000.0, -1_000_000.0, -0.0] {
+            assert_eq!(with(x).plan(), Ok(counts));
+        }
+        for x in [past, -past, f32::INFINITY, f32::NEG_INFINITY, f32::NAN] {
+            let (job, mut mesh) = (with(x), fresh.clone());
+            assert_eq!(job.plan(), Err(Refusal::Range));
+            assert!(matches!(job.build(), Err(Refusal::Range)));
+            assert_eq!(job.build_into(&mut mesh.buffers()), Err(Refusal::Range));
+            // The range is tested before the face's number.
+            assert_eq!(job.build_face(99, &mut mesh.buffers()), Err(Refusal::Range));
+            assert_eq!(mesh, fresh);
+        }
+    }
+}
+
+#[test]
+fn every_number_of_a_job_is_tested() {
+    every_number_is_tested(plane(), plane_numbers);
+    every_number_is_tested(column(), column_numbers);
+    every_number_is_tested(cheap_column(), cheap_column_numbers);
+    let bare = Column {
+        sides: [None; 6],
+        top: None,
+        bottom: None,
+        ..column()
+    };
+    every_number_is_tested(bare, column_numbers);
+}
+
+#[test]
+fn too_many_vertices_are_refused_after_numbers_and_before_faces_and_room() {
+    let tall = Column {
+        subdivisions: Some(2_731),
+        ..column()
+    };
+    let mut mesh = filled(1, 1);
+    assert_eq!(tall.build_into(&mut mesh.buffers()), Err(Refusal::Limit));
+    assert_eq!(
+        tall.build_face(usize::MAX, &mut mesh.buffers()),
+        Err(Refusal::Limit)
+    );
+    let both = Column {
+        height: f32::NAN,
+        ..tall
+    };
+    assert_eq!(both.build_into(&mut mesh.buffers()), Err(Refusal::Range));
+    assert_eq!(mesh, filled(1, 1));
+}
+
+fn one_short_is_refused(job: &impl Job, faces: usize) {
+    let counts = job.plan().unwrap();
+    for short in one_short(&filled(counts.vertices, counts.indices)) {
+        let mut mesh = short.clone();
+        assert_eq!(job.build_into(&mut mesh.buffers()), Err(Refusal::Room));
+        for face in 0..faces {
+            assert_eq!(
+                job.build_face(face, &mut mesh.buffers()),
+                Err(Refusal::Room)
+            );
+        }
+        for face in [faces, usize::MAX] {
+            assert_eq!(
+                job.build_face(face, &mut mesh.buffers()),
+                Err(Refusal::NoFace)
+            );
+        }
+        assert_eq!(mesh, short);
+    }
+}
+
+#[test]
+fn a_list_one_short_is_refused_and_left_as_it_was() {
+    one_short_is_refused(&plane(), 1);
+    one_short_is_refused(&column(), 20);
+    one_short_is_refused(&cheap_column(), 1);
+}
+
+#[test]
+fn a_mesh_whose_lists_do_not_fit_is_refused() {
+    let good = plane().build().unwrap();
+    let mut long = [(); 3].map(|()| good.clone());
+    long[0].vertices.push([0.0; 3]);
+    long[1].normals.push([0.0; 3]);
+    long[2].uvs.push([0.0; 2]);
+    let short = one_short(&good).into_iter().take(3);
+    for bad in long.into_iter().chain(short) {
+        let (mut target, mut onto) = (bad.clone(), good.clone());
+        assert_eq!(bad.counts(), Err(Refusal::Shape));
+        assert_eq!(target.scale([1.0; 3]), Err(Refusal::Shape));
+        assert_eq!(target.offset([1.0; 3]), Err(Refusal::Shape));
+        assert_eq!(target.uv_scale([1.0; 2]), Err(Refusal::Shape));
+        assert_eq!(target.merge_with(&good), Err(Refusal::Shape));
+        assert_eq!(onto.merge_with(&bad), Err(Refusal::Shape));
+        assert_eq!(bad.centroid(), Err(Refusal::Shape));
+        assert_eq!(bad.uv_centroid(), Err(Refusal::Shape));
+        assert_eq!((bits(&target), bits(&onto)), (bits(&bad), bits(&good)));
+    }
+}
+
+#[test]
+fn an_index_to_no_vertex_is_not_merged() {
+    let good = cheap_column().build().unwrap();
+    let mut bad = good.clone();
+    bad.indices[47] = 12;
+    let mut target = good.clone();
+    let capacity = target.vertices.capacity();
+    assert_eq!(target.merge_with(&bad), Err(Refusal::Index));
+    assert_eq!(target, good);
+    assert_eq!(target.vertices.capacity(), capacity);
+    // What is in the target is not asked.
+    assert!(bad.merge_with(&good).is_ok());
+}
+
+#[test]
+fn a_centroid_of_nothing_is_refused() {
+    assert_eq!(Mesh::default().centroid(), Err(Refusal::Empty));
+    assert_eq!(Mesh::default().uv_centroid(), Err(Refusal::Empty));
+}
+
+#[test]
+fn numbers_and_words_tell_refusals_apart() {
+    for (k, why) in (1..).zip(Refusal::ALL) {
+        assert_eq!((why.number(), Refusal::from_number(k)), (k, Some(why)));
+        let error: &dyn std::error::Error = &why;
+        assert!(error.to_string().contains(": "), "{why:?} says what to do");
+    }
+    assert_eq!(Refusal::ALL.len(), 8);
+    for none in [0, 9, 10, 257, u32::MAX] {
+        assert_eq!(Refusal::from_number(none), None);
+    }
+    let mut words = Refusal::ALL.map(|why| why.to_string());
+    words.sort();
+    assert!(words.windows(2).all(|two| two[0] != two[1]));
+}
