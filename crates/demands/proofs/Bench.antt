@@ -1,11 +1,10 @@
 -- Every bench case holds: plans through their counts in closed form, with no walk over thousands of faces, and
 -- the rest by laws of the crates below. Assumes nothing.
-use mathlib.Core.Path.{_≡_, refl, sym, ap, ap₂, _∙_}
+use mathlib.Core.Path.{_≡_, refl, ap, _∙_}
 use mathlib.Core.Bool.{Bool, true, false}
 use mathlib.Core.List.{List, [], _∷_, _++_}
-use Prim.Native.Nat.{ℕ}
 use lib.ListN.{take}
-use lib.Ieee.{Float, binary32, ofBits, neg, le, lt}
+use lib.Ieee.{Float, ofBits, neg, le, lt}
 use Rattle.arith.proofs.Bench.{root-of-two, root-of-least, fused-once}
 use Rattle.face.specs.declared.triangle.Counts.{Counts}
 use Rattle.face.specs.declared.inset.Inset.the-variants.{Centroid, SmallestEdge}

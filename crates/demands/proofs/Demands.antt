@@ -29,7 +29,7 @@ use Rattle.plane_builder.specs.Plane as plane
 use Rattle.plane_builder.proofs.Laws as planeLaws
 use Rattle.column_builder.specs.Column as column
 use Rattle.column_builder.proofs.Whole as columnLaws
-use Rattle.demands.specs.Job.{Job, OfCheapColumn, OfPlane, OfColumn, faces, planned, wholeAnswer, faceAnswer, built, faced, Call, Face, BuildOf, FaceOf, Other, done, called, IsRefused, RefusedThere, AllRefused, Among}
+use Rattle.demands.specs.Job.{Job, OfCheapColumn, OfPlane, OfColumn, faces, planned, wholeAnswer, faceAnswer, built, faced, Call, Face, BuildOf, FaceOf, Other, called, AllRefused, Among}
 
 -- ---- each kind is its own tests and its faces: what its functions promise is what `Jobs` says of those
 abbrev checked : Job → Answer → Answer

@@ -64,15 +64,16 @@ pub data Call : Type 0 where
   -- a refused call of another kind: a merge, a stored mesh; it leaves what is lent
   Other : Call
 
-abbrev pub done : Job → Call → Buffers → Buffers
-done job (Face k) B = faced job k B
-done job (BuildOf other) B = built other B
-done job (FaceOf other k) B = faced other k B
-done job Other B = B
+-- the buffers after a call
+abbrev pub leaves : Job → Call → Buffers → Buffers
+leaves job (Face k) B = faced job k B
+leaves job (BuildOf other) B = built other B
+leaves job (FaceOf other k) B = faced other k B
+leaves job Other B = B
 
 unfoldable pub called : Job → List Call → Buffers → Buffers
 called job [] B = B
-called job (c ∷ cs) B = called job cs (done job c B)
+called job (c ∷ cs) B = called job cs (leaves job c B)
 
 -- R10: an answer that is some refusal
 pub record IsRefused (a : Answer) : Type 0 where

@@ -1,4 +1,4 @@
--- Answers as a caller from C is told them. Definitions only.
+-- Answers as a caller from C is told them; R10 is a row of docs/TRACE.md. Definitions only.
 use Rattle.face.specs.declared.vec.Vec2.{Vec2}
 use Rattle.face.specs.declared.vec.Vec3.{Vec3}
 use Rattle.answer.specs.declared.answer.Answer.{Answer}

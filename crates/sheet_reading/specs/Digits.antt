@@ -1,4 +1,4 @@
--- The two number formats of a sheet as bytes. Definitions only.
+-- The two number formats of a sheet as bytes; P2 is a row of docs/TRACE.md. Definitions only.
 use Prim.Native.Nat.{ℕ, zero, suc, _+_, _-_, _/_, _%_}
 use mathlib.Core.Bool.{Bool, true, false}
 use mathlib.Core.List.{List, [], _∷_, _++_}

@@ -1,4 +1,4 @@
--- A sheet as its bytes, and which sheets are lawful. Definitions only.
+-- A sheet as its bytes, and which sheets are lawful; P1 to P4 are rows of docs/TRACE.md. Definitions only.
 use Prim.Native.Nat.{ℕ, _+_, _*_, _%_, _≤_, _<_}
 use mathlib.Core.Bool.{Bool}
 use mathlib.Core.Path.{_≡_}
@@ -28,11 +28,11 @@ capsName = 99 ∷ 97 ∷ 112 ∷ 115 ∷ 32 ∷ []
 abbrev pub countText : ℕ → List ℕ
 countText n = decimal n ++ (newline ∷ [])
 
--- a section's line: its name and its count
+-- P1: a section's line: its name and its count
 abbrev pub sectionText : List ℕ → ℕ → List ℕ
 sectionText name n = name ++ countText n
 
--- after the number i: a newline if it is the last of its line, else a space
+-- P3: after the number i: a newline if it is the last of its line, else a space
 unfoldable pub separatorAt : ℕ → ℕ → ℕ
 separatorAt width i = pick (eqb ((i + 1) % width) 0) newline space
 
@@ -48,6 +48,7 @@ blockText name width n xs = sectionText name n ++ numbersText width 0 (take (wid
 abbrev pub headText : ℕ → ℕ → List ℕ
 headText height subdivisions = sectionText columnName 1 ++ (hexDigits height ++ (space ∷ countText subdivisions))
 
+-- P4: six corners for both caps, or none
 abbrev pub capLines : Bool → ℕ
 capLines b = pick b 6 0
 
@@ -56,6 +57,7 @@ sheetText s =
     headText (s .height) (s .subdivisions)
     ++ (blockText sidesName 4 (s .sides) (s .pairs) ++ blockText capsName 2 (capLines (s .caps)) (s .corners))
 
+-- P2: a number of 32 bits
 abbrev pub Fits : ℕ → Type 0
 Fits n = n < 4294967296
 
@@ -69,6 +71,7 @@ pub record Filled (places n : ℕ) (xs : List ℕ) : Type 0 where
   pub fit : AllFit (take n xs)
   pub unused : drop n xs ≡ drop n (replicate places 0)
 
+-- P4: at most six sides
 pub record Lawful (s : Sheet) : Type 0 where
   pub height : Fits (s .height)
   pub subdivisions : Fits (s .subdivisions)
