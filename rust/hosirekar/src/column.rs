@@ -3,7 +3,7 @@
 use crate::options::Table;
 use crate::placement::{placement, vec2};
 use crate::refusal::answered;
-use crate::{Counts, FaceOptions, Job, MeshBuffers, Refusal};
+use crate::{Counts, FaceOptions, Job, Mesh, MeshBuffers, Refusal};
 use hosirekar_sys::{
     hosirekar_column_build, hosirekar_column_face, hosirekar_column_plan, CChoice, CColumn,
     CSubdivisions,
@@ -102,69 +102,92 @@ impl Column {
         }
     }
 
-    fn job(&self, table: &mut Table) -> CColumn {
-        CColumn {
+    fn call(&self) -> Call<'_> {
+        let mut table = Table::default();
+        let job = CColumn {
             height: self.height,
             subdivisions: CSubdivisions {
                 given: self.subdivisions.is_some(),
                 number: self.subdivisions.unwrap_or_default(),
             },
-            sides: std::array::from_fn(|side| choice(&self.sides[side], table)),
-            top: choice(&self.top, table),
-            bottom: choice(&self.bottom, table),
+            sides: std::array::from_fn(|side| choice(&self.sides[side], &mut table)),
+            top: choice(&self.top, &mut table),
+            bottom: choice(&self.bottom, &mut table),
             position: vec2(self.position),
             placement: placement(self.scale, self.rotation, self.offset),
+        };
+        Call {
+            job,
+            ends: self.side_ends.as_flattened().as_flattened(),
+            corners: self.cap_corners.as_flattened(),
+            table,
         }
-    }
-
-    fn ends(&self) -> &[f32] {
-        self.side_ends.as_flattened().as_flattened()
     }
 }
 
-impl Job for Column {
+/// A column as the archive takes it.
+struct Call<'a> {
+    job: CColumn,
+    ends: &'a [f32],
+    corners: &'a [f32],
+    table: Table,
+}
+
+impl Call<'_> {
     fn plan(&self) -> Result<Counts, Refusal> {
-        let mut table = Table::default();
-        let job = self.job(&mut table);
         answered(hosirekar_column_plan(
-            job,
-            self.ends(),
-            self.cap_corners.as_flattened(),
-            table.numbers(),
-            table.marks(),
+            self.job,
+            self.ends,
+            self.corners,
+            self.table.numbers(),
+            self.table.marks(),
         ))
     }
 
-    fn build_into(&self, to: &mut MeshBuffers<'_>) -> Result<Counts, Refusal> {
-        let mut table = Table::default();
-        let job = self.job(&mut table);
+    fn build(&self, to: &mut MeshBuffers<'_>) -> Result<Counts, Refusal> {
         answered(hosirekar_column_build(
-            job,
-            self.ends(),
-            self.cap_corners.as_flattened(),
-            table.numbers(),
-            table.marks(),
+            self.job,
+            self.ends,
+            self.corners,
+            self.table.numbers(),
+            self.table.marks(),
             to.vertices.as_flattened_mut(),
             to.normals.as_flattened_mut(),
             to.uvs.as_flattened_mut(),
             to.indices,
         ))
     }
+}
+
+impl Job for Column {
+    fn plan(&self) -> Result<Counts, Refusal> {
+        self.call().plan()
+    }
+
+    fn build_into(&self, to: &mut MeshBuffers<'_>) -> Result<Counts, Refusal> {
+        self.call().build(to)
+    }
 
     fn build_face(&self, face: usize, to: &mut MeshBuffers<'_>) -> Result<Counts, Refusal> {
-        let mut table = Table::default();
-        let job = self.job(&mut table);
+        let call = self.call();
         answered(hosirekar_column_face(
-            job,
-            self.ends(),
-            self.cap_corners.as_flattened(),
-            table.numbers(),
-            table.marks(),
+            call.job,
+            call.ends,
+            call.corners,
+            call.table.numbers(),
+            call.table.marks(),
             face,
             to.vertices.as_flattened_mut(),
             to.normals.as_flattened_mut(),
             to.uvs.as_flattened_mut(),
             to.indices,
         ))
+    }
+
+    fn build(&self) -> Result<Mesh, Refusal> {
+        let call = self.call();
+        let mut mesh = Mesh::zeroed(call.plan()?);
+        call.build(&mut mesh.buffers())?;
+        Ok(mesh)
     }
 }

@@ -63,9 +63,12 @@ impl Mesh {
     /// A mesh of so many vertices and indices, all 0, to be written to.
     #[must_use]
     pub fn zeroed(counts: Counts) -> Self {
-        let mut mesh = Mesh::default();
-        mesh.resize(counts);
-        mesh
+        Self {
+            vertices: vec![[0.0; 3]; counts.vertices],
+            normals: vec![[0.0; 3]; counts.vertices],
+            uvs: vec![[0.0; 2]; counts.vertices],
+            indices: vec![0; counts.indices],
+        }
     }
 
     /// Its lists, lent.

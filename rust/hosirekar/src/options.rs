@@ -125,6 +125,9 @@ impl Default for Rect {
 /// The most faces of a job that have options of their own: six sides and two caps.
 const FACES: usize = 8;
 
+/// The number of the default options, which need no entry.
+const DEFAULT: u8 = 255;
+
 /// The options of a job as the archive takes them: nine numbers and four marks each.
 #[derive(Default)]
 pub(crate) struct Table {
@@ -134,13 +137,23 @@ pub(crate) struct Table {
 }
 
 impl Table {
-    /// The number of a new entry; a table is asked for at most eight.
+    /// The number of these options. An entry is made only where they are neither the default nor
+    /// the last ones again; a table is asked for at most eight.
     pub(crate) fn add(&mut self, options: &FaceOptions) -> u8 {
-        let entry = self.entries;
-        self.numbers[usize::from(entry)] = numbers(options);
-        self.marks[usize::from(entry)] = marks(options);
+        let (numbers, marks) = (numbers(options), marks(options));
+        if marks == [0; 4] && same(&numbers, &PLAIN) {
+            return DEFAULT;
+        }
+        let entry = usize::from(self.entries);
+        if let Some(last) = entry.checked_sub(1) {
+            if marks == self.marks[last] && same(&numbers, &self.numbers[last]) {
+                return self.entries - 1;
+            }
+        }
+        self.numbers[entry] = numbers;
+        self.marks[entry] = marks;
         self.entries += 1;
-        entry
+        self.entries - 1
     }
 
     pub(crate) fn numbers(&self) -> &[f32] {
@@ -150,6 +163,14 @@ impl Table {
     pub(crate) fn marks(&self) -> &[u8] {
         self.marks[..usize::from(self.entries)].as_flattened()
     }
+}
+
+/// The numbers of the default options.
+const PLAIN: [f32; 9] = [1.0, 1.0, 0.0, 0.0, 0.0, 0.0, 1.0, 1.0, 0.0];
+
+/// Whether two entries have the same bits: -0 is not +0 here.
+fn same(a: &[f32; 9], b: &[f32; 9]) -> bool {
+    a.map(f32::to_bits) == b.map(f32::to_bits)
 }
 
 fn numbers(FaceOptions { uv, insetting }: &FaceOptions) -> [f32; 9] {

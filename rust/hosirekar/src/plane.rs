@@ -3,7 +3,7 @@
 use crate::options::Table;
 use crate::placement::{placement, vec2};
 use crate::refusal::answered;
-use crate::{Counts, FaceOptions, Job, MeshBuffers, Refusal};
+use crate::{Counts, FaceOptions, Job, Mesh, MeshBuffers, Refusal};
 use hosirekar_sys::{hosirekar_plane_build, hosirekar_plane_face, hosirekar_plane_plan, CPlane};
 
 /// A hexagon that faces upwards, as hexx's `PlaneMeshBuilder` makes it. It is one face.
@@ -52,55 +52,80 @@ impl Plane {
         }
     }
 
-    fn job(&self, table: &mut Table) -> CPlane {
-        CPlane {
+    fn call(&self) -> Call<'_> {
+        let mut table = Table::default();
+        let job = CPlane {
             position: vec2(self.position),
             option: table.add(&self.options),
             placement: placement(self.scale, self.rotation, self.offset),
+        };
+        Call {
+            job,
+            corners: self.corners.as_flattened(),
+            table,
         }
     }
 }
 
-impl Job for Plane {
+/// A plane as the archive takes it.
+struct Call<'a> {
+    job: CPlane,
+    corners: &'a [f32],
+    table: Table,
+}
+
+impl Call<'_> {
     fn plan(&self) -> Result<Counts, Refusal> {
-        let mut table = Table::default();
-        let job = self.job(&mut table);
         answered(hosirekar_plane_plan(
-            job,
-            self.corners.as_flattened(),
-            table.numbers(),
-            table.marks(),
+            self.job,
+            self.corners,
+            self.table.numbers(),
+            self.table.marks(),
         ))
     }
 
-    fn build_into(&self, to: &mut MeshBuffers<'_>) -> Result<Counts, Refusal> {
-        let mut table = Table::default();
-        let job = self.job(&mut table);
+    fn build(&self, to: &mut MeshBuffers<'_>) -> Result<Counts, Refusal> {
         answered(hosirekar_plane_build(
-            job,
-            self.corners.as_flattened(),
-            table.numbers(),
-            table.marks(),
+            self.job,
+            self.corners,
+            self.table.numbers(),
+            self.table.marks(),
             to.vertices.as_flattened_mut(),
             to.normals.as_flattened_mut(),
             to.uvs.as_flattened_mut(),
             to.indices,
         ))
     }
+}
+
+impl Job for Plane {
+    fn plan(&self) -> Result<Counts, Refusal> {
+        self.call().plan()
+    }
+
+    fn build_into(&self, to: &mut MeshBuffers<'_>) -> Result<Counts, Refusal> {
+        self.call().build(to)
+    }
 
     fn build_face(&self, face: usize, to: &mut MeshBuffers<'_>) -> Result<Counts, Refusal> {
-        let mut table = Table::default();
-        let job = self.job(&mut table);
+        let call = self.call();
         answered(hosirekar_plane_face(
-            job,
-            self.corners.as_flattened(),
-            table.numbers(),
-            table.marks(),
+            call.job,
+            call.corners,
+            call.table.numbers(),
+            call.table.marks(),
             face,
             to.vertices.as_flattened_mut(),
             to.normals.as_flattened_mut(),
             to.uvs.as_flattened_mut(),
             to.indices,
         ))
+    }
+
+    fn build(&self) -> Result<Mesh, Refusal> {
+        let call = self.call();
+        let mut mesh = Mesh::zeroed(call.plan()?);
+        call.build(&mut mesh.buffers())?;
+        Ok(mesh)
     }
 }

@@ -340,6 +340,51 @@ fn what_is_left_out_changes_nothing() {
     assert_eq!(moved.build().unwrap().vertices[1], [1.0, 3.0, 2.0]);
 }
 
+/// Options that differ in the sign of their zeros alone, which a u of 0 shows.
+fn turned_about(zero: f32) -> FaceOptions {
+    let mut options = FaceOptions::default();
+    options.uv.scale_factor = [-1.0; 2];
+    options.uv.offset = [zero; 2];
+    options.uv.rect.min = [zero; 2];
+    options
+}
+
+fn flipped(mut options: FaceOptions) -> FaceOptions {
+    options.uv.flip[0] = true;
+    options
+}
+
+#[test]
+fn faces_keep_their_own_options() {
+    // With each, what the u of 0 of a side's last vertex becomes.
+    let given = [
+        (FaceOptions::default(), 0.0),
+        (flipped(FaceOptions::default()), 1.0),
+        (turned_about(0.0), 0.0),
+        (turned_about(-0.0), -0.0),
+        (flipped(turned_about(-0.0)), -1.0),
+        (flipped(turned_about(-0.0)), -1.0_f32),
+    ];
+    let bare = Column {
+        sides: [None; 6],
+        top: None,
+        bottom: None,
+        ..Column::new(CORNERS, 1.0)
+    };
+    let all = Column {
+        sides: given.map(|(options, _)| Some(options)),
+        ..bare
+    };
+    let (_, _, uvs, _) = bits(&all.build().unwrap());
+    for (side, (options, last)) in given.into_iter().enumerate() {
+        let mut alone = bare;
+        alone.sides[side] = Some(options);
+        let (_, _, own, _) = bits(&alone.build().unwrap());
+        assert_eq!(uvs[8 * side..8 * side + 8], own);
+        assert_eq!(own[6], last.to_bits());
+    }
+}
+
 #[test]
 fn a_uv_is_altered_in_order() {
     let options = UVOptions {
