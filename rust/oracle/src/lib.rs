@@ -12,6 +12,8 @@ pub mod cases;
 #[cfg(feature = "archive")]
 pub mod compare;
 #[cfg(feature = "archive")]
+pub mod differences;
+#[cfg(feature = "archive")]
 pub mod limits;
 pub mod line;
 pub mod mesh_cases;

@@ -21,8 +21,10 @@ pub const VERTICES: usize = 65_536;
 /// What was tried about the limit.
 #[derive(Debug, Default)]
 pub struct Limits {
-    /// The greatest that are taken.
+    /// The greatest that are taken, with no bottom.
     pub taken: Tally,
+    /// Those with a bottom.
+    pub bottoms: Tally,
     /// The least that are not.
     pub refused: Tally,
     /// Merges up to the limit and beyond.
@@ -34,24 +36,26 @@ pub struct Limits {
     pub exact: usize,
 }
 
-/// Every set of sides, each with no top, a plain one and an inset one, and with
-/// sides of the default, of a centroid inset, of a smallest-edge inset and
-/// mixed; every `step`th of them.
+/// Every set of sides, each with no top, a plain one and an inset one, the same
+/// of the bottom, and with sides of the default, of a centroid inset, of a
+/// smallest-edge inset and mixed; every `step`th of them.
 #[must_use]
 pub fn all(step: usize, random: &mut Random) -> Limits {
     let mut limits = Limits {
         fewest: usize::MAX,
         ..Limits::default()
     };
-    for number in (0..64 * 3 * 4).step_by(step) {
+    for number in (0..64 * 3 * 4 * 3).step_by(step) {
         let column = column(number);
         let each = Each::of(&column);
+        let tally = match column.bottom {
+            Choice::Absent => &mut limits.taken,
+            _ => &mut limits.bottoms,
+        };
         let Some(parts) = (VERTICES - each.cap).checked_div(each.part) else {
             // Without sides, no number of parts is too great.
             for parts in [0, 1, 65_537, u32::MAX] {
-                limits
-                    .taken
-                    .add(taken(&with_parts(&column, parts), false, random));
+                tally.add(taken(&with_parts(&column, parts), false, random));
             }
             continue;
         };
@@ -60,9 +64,7 @@ pub fn all(step: usize, random: &mut Random) -> Limits {
         limits.most = limits.most.max(vertices);
         limits.fewest = limits.fewest.min(vertices);
         limits.exact += usize::from(vertices == VERTICES);
-        limits
-            .taken
-            .add(taken(&greatest, number.is_multiple_of(7), random));
+        tally.add(taken(&greatest, number.is_multiple_of(7), random));
         let above = [parts as u32 + 1, parts as u32 + 2, 1 << 30, u32::MAX];
         for parts in above {
             limits.refused.add(too_many(&with_parts(&column, parts)));
@@ -72,7 +74,7 @@ pub fn all(step: usize, random: &mut Random) -> Limits {
     limits
 }
 
-/// The vertices of one part of all sides, and those of the top.
+/// The vertices of one part of all sides, and those of the caps.
 struct Each {
     part: usize,
     cap: usize,
@@ -101,7 +103,8 @@ fn with_parts(column: &Column, parts: u32) -> Column {
 }
 
 fn column(number: usize) -> Column {
-    let (set, top, sides) = (number % 64, number / 64 % 3, number / 192);
+    let (set, top) = (number % 64, number / 64 % 3);
+    let (sides, bottom) = (number / 192 % 4, number / 768);
     let options = |inset| FaceOptions {
         uv: UVOptions::new(),
         insetting: Some(inset),
@@ -122,7 +125,7 @@ fn column(number: usize) -> Column {
             _ => Choice::Absent,
         }),
         top: [Choice::Absent, Choice::Default, Choice::Entry(1)][top],
-        bottom: Choice::Absent,
+        bottom: [Choice::Absent, Choice::Default, Choice::Entry(0)][bottom],
         options: vec![
             options(inset(
                 InsetScaleMode::Centroid,

@@ -4,6 +4,7 @@
 
 use oracle::builders::Column;
 use oracle::compare::{Tally, job};
+use oracle::differences;
 use oracle::limits::{self, Limits};
 use oracle::mesh_cases::{Cases, Merge};
 use oracle::ours::Job;
@@ -65,6 +66,10 @@ fn main() -> ExitCode {
     });
     differ += drawn("stored meshes", count, seed, stored);
     differ += about_the_limit(&limits::all(asked.step, &mut Random::new(seed)));
+    differ += told(
+        "where hexx panics, wraps or takes more",
+        &differences::all(),
+    );
     println!("held to the written steps, not to hexx:");
     differ += drawn("planes with a turn", count / 4, seed, |random| {
         job(&builder_cases::drawn_plane(random, true), random)
@@ -172,6 +177,7 @@ fn stored(random: &mut Random) -> Result<(), String> {
 fn about_the_limit(limits: &Limits) -> u64 {
     let Limits {
         taken,
+        bottoms,
         refused,
         merges,
         most,
@@ -179,6 +185,7 @@ fn about_the_limit(limits: &Limits) -> u64 {
         exact,
     } = limits;
     let differ = told("greatest columns that are taken", taken)
+        + told("of those with a bottom, held to the written steps", bottoms)
         + told("columns with a part more", refused)
         + told("merges about the limit", merges);
     println!("  vertices from {fewest} to {most}, {exact} times {most}");
