@@ -1,12 +1,13 @@
 -- Loops over a face of any number of points: one that fills an array, and one that sums. Assumes nothing.
-use mathlib.Core.Path.{_≡_, refl, sym, ap, _∙_}
+use mathlib.Core.Path.{_≡_, refl, sym, ap, ap₂, _∙_}
+use mathlib.Core.Logic.{_⊎_, inl, inr}
 use mathlib.Core.List.{List, [], _∷_, _++_, map, map-append, foldl, append-nil, foldl-append}
 use Prim.Native.Nat.{ℕ, zero, suc, _+_, _≤_, _<_}
-use native.Mathlib.Nat.{le-of-lt}
+use native.Mathlib.Nat.{le-of-lt, eq-or-lt-of-le, le-of-suc-le-suc}
 use native.Mathlib.Numerals.{add-one}
 use native.Mathlib.Omega.{arith}
-use lib.ListN.{length, getD, set, take, drop, length-append, drop-of-length-le}
-use lib.Seq.{drop-cons, set-at, append-snoc, take-suc, take-all}
+use lib.ListN.{length, getD, set, take, drop, length-append, drop-of-length-le, List·getD-append}
+use lib.Seq.{getD-append-add, drop-cons, set-at, append-snoc, take-suc, take-all}
 use lib.IntN.{pos}
 use lib.Ieee.{Float, binary32, ofInt, ofBits}
 use Rattle.face.specs.Lists.{each}
@@ -30,6 +31,20 @@ module _ {A : Type 0} where
   -- of each element of a list
   pub each-map : {B : Type 0} (f : B → A) (l : List B) (z : B) (n : ℕ) → length l ≡ n → each (λ k. f (getD l k z)) n ≡ map f l
   each-map f l z n e = each-take f l z n (omega arith) ∙ rw (take-all n l (omega arith))
+
+  pub each-same : (g h : ℕ → A) (n : ℕ) → ((v : ℕ) → v < n → g v ≡ h v) → each g n ≡ each h n
+  each-same g h zero e = refl
+  each-same g h (suc n) e = ap₂ (λ (l : List A) (x : A). l ++ (x ∷ [])) (each-same g h n (λ v l. e v (omega arith))) (e n (omega arith))
+
+  pub each-at : (g : ℕ → A) (n v : ℕ) (d : A) → v < n → getD (each g n) v d ≡ g v
+  each-at g zero v d h = absurd (let x : v < 0 = h in omega arith)
+  each-at g (suc n) v d h = go (eq-or-lt-of-le (le-of-suc-le-suc h)) (each-at g n v d)
+    where
+      go : (v ≡ n) ⊎ (v < n) → (v < n → getD (each g n) v d ≡ g v) → getD (each g n ++ (g n ∷ [])) v d ≡ g v
+      go (inl e) r =
+          let l : v ≡ length (each g n) + 0 = omega (arith, length-each g n, e) in
+          ap (λ (x : ℕ). getD (each g n ++ (g n ∷ [])) x d) l ∙ getD-append-add (each g n) (g n ∷ []) 0 d ∙ ap g (sym e)
+      go (inr l) r = List·getD-append (each g n) (g n ∷ []) d v (omega (arith, length-each g n)) ∙ r l
 
   -- a list is each of its elements
   pub each-all : (l : List A) (z : A) (n : ℕ) → length l ≡ n → each (λ k. getD l k z) n ≡ l

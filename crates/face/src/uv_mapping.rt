@@ -2,6 +2,7 @@
 ghost use mathlib.Core.Path.{_≡_};
 ghost use mathlib.Core.List.{map};
 ghost use Rattle.arith.specs.Fused.{fma};
+ghost use Rattle.face.specs.Vec.{length2, reciprocal};
 ghost use Rattle.face.specs.Texture.{plain, component, altered, unitOr, wrapped};
 use crate::vec::Vec2;
 
@@ -31,14 +32,19 @@ pub fn default_options() -> UvOptions
     }
 }
 
-// In a rectangle of width 1, as the default's is, the product needs no rounding and the sum has the one.
+// Where a factor is 1 or 0, as the width of the default rectangle and the u of a wall's corners are,
+// the product needs no rounding and the sum has the one.
 fn remap(width: f32, u: f32, min: f32) -> f32
     ensures { λ r. ⌜ r ≡ fma width u min ⌝ }
 {
-    if width == width {
-        if f32::to_bits(width) == 0x3f80_0000 {
-            return u + min;
-        }
+    if width == 1.0 {
+        return u + min;
+    }
+    if u == 1.0 {
+        return width + min;
+    }
+    if u == 0.0 {
+        return width * u + min;
     }
     arith::fused(width, u, min)
 }
@@ -108,23 +114,75 @@ fn unit_or(p: Vec2, k: f32) -> Vec2
     p
 }
 
-// A corner as a texture coordinate: its direction, moved into the unit square.
-pub fn wrap_uv(p: Vec2) -> Vec2
+fn one_of(p: Vec2) -> f32
+    ensures { λ r. ⌜ r ≡ reciprocal (length2 p) ⌝ }
+{
+    crate::vec::one_over(crate::vec::len2(p))
+}
+
+// The reciprocal length of p, where k is that of q: it is k if both squares are the same.
+fn one_again(p: Vec2, q: Vec2, k: f32) -> f32
+    requires { ⌜ k ≡ reciprocal (length2 q) ⌝ }
+    ensures { λ r. ⌜ r ≡ reciprocal (length2 p) ⌝ }
+{
+    let a = crate::vec::squared2(p);
+    let b = crate::vec::squared2(q);
+    if a == b {
+        if f32::to_bits(a) == f32::to_bits(b) {
+            return k;
+        }
+    }
+    crate::vec::one_over(arith::root(a))
+}
+
+fn wrap_by(p: Vec2, k: f32) -> Vec2
+    requires { ⌜ k ≡ reciprocal (length2 p) ⌝ }
     ensures { λ r. ⌜ r ≡ wrapped p ⌝ }
 {
-    let q = unit_or(p, crate::vec::one_over(crate::vec::len2(p)));
+    let q = unit_or(p, k);
     Vec2 {
         x: q.x / 2.0 + 0.5,
         y: q.y / 2.0 + 0.5,
     }
 }
 
+// A corner as a texture coordinate: its direction, moved into the unit square.
+pub fn wrap_uv(p: Vec2) -> Vec2
+    ensures { λ r. ⌜ r ≡ wrapped p ⌝ }
+{
+    wrap_by(p, one_of(p))
+}
+
+// A corner and the opposite one.
+struct Across {
+    near: Vec2,
+    far: Vec2,
+}
+
+// About the origin both have one length, and one root serves them.
+fn wrap_across(p: Vec2, q: Vec2) -> Across
+    ensures { λ r. ⌜ (r .near ≡ wrapped p) × (r .far ≡ wrapped q) ⌝ }
+{
+    let k = one_of(p);
+    let near = wrap_by(p, k);
+    let far = wrap_by(q, one_again(q, p, k));
+    Across {
+        near: near,
+        far: far,
+    }
+}
+
 pub fn wrap_six(cs: [Vec2; 6]) -> [Vec2; 6]
     ensures { λ r. ⌜ r ≡ map wrapped cs ⌝ }
 {
-    let mut out = cs;
-    for i in 0usize..6 {
-        out[i] = wrap_uv(cs[i]);
-    }
-    out
+    let a = wrap_across(cs[0], cs[3]);
+    let b = wrap_across(cs[1], cs[4]);
+    let c = wrap_across(cs[2], cs[5]);
+    let t0 = a.near;
+    let t1 = b.near;
+    let t2 = c.near;
+    let t3 = a.far;
+    let t4 = b.far;
+    let t5 = c.far;
+    [t0, t1, t2, t3, t4, t5]
 }

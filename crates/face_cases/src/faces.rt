@@ -95,9 +95,9 @@ fn alter_inset_quad(words: &[u32; CELLS], q: InsetQuad) -> InsetQuad {
 fn whole_quad(words: &[u32; CELLS], how: Inset) -> InsetQuad {
     let plain = plain_quad(words);
     if cells::mark(words, 22) {
-        return alter_inset_quad(words, face::inset::inset_quad(how, plain));
+        return alter_inset_quad(words, insetting::inset_quad(how, plain));
     }
-    face::inset::inset_quad(how, alter_quad(words, plain))
+    insetting::inset_quad(how, alter_quad(words, plain))
 }
 
 // A quad in the room of a hexagon: the places past the quad's are not read.
@@ -184,9 +184,9 @@ fn alter_inset_hexagon(words: &[u32; CELLS], h: InsetHexagon) -> InsetHexagon {
 fn whole_hexagon(words: &[u32; CELLS], how: Inset) -> InsetHexagon {
     let plain = face::face::new_hexagon(corners(words));
     if cells::mark(words, 25) {
-        return alter_inset_hexagon(words, face::inset::inset_hexagon(how, plain));
+        return alter_inset_hexagon(words, insetting::inset_hexagon(how, plain));
     }
-    face::inset::inset_hexagon(how, alter_hexagon(words, plain))
+    insetting::inset_hexagon(how, alter_hexagon(words, plain))
 }
 
 fn hexagon(words: &[u32; CELLS]) -> [u32; OUTPUTS] {

@@ -1,36 +1,26 @@
--- `wrap_six`: the loop fills the array, point by point. Assumes nothing.
+-- `wrap_six`: three pairs of opposite corners are six. Assumes nothing.
 use borrow.Author.Needs.{needs}
-use Prim.Native.Nat.{_-_}
-use mathlib.Core.Path.{_≡_, refl}
-use lib.ListN.{length, getD}
 use Rattle.face.specs.Vec.{off2}
 use Rattle.face.specs.Texture.{wrapped}
-use Rattle.face.proofs.Filling.{Filled, filled-more, filled-map}
+use Rattle.face.proofs.Filling.{each-map}
 use Rattle.face.proofs.uv_mapping.wrap_six.Statement.{statement}
 use Rattle.face.proofs.uv_mapping.wrap_six.Tie as tie
-
-abbrev Inv : tie.InvT-loop
-Inv cs out₀ i₀ out i = Filled (λ v. wrapped (getD cs v off2)) 6 out₀ i out
-
-abbrev μ : tie.MeasureT-loop
-μ cs out₀ i₀ out i = 6 - i
 
 pub wrap-six-spec : {M : Type 1} → statement M
 wrap-six-spec =
     tie.close
     (tie.spec
-    Inv
-    μ
-    (λ c. (search needs, refl))
     (λ c. search needs)
     (λ c. search needs)
     (λ c κs. search needs)
     (λ c. search needs)
     (λ c. search needs)
+    (λ c κs. search needs)
     (λ c. search needs)
     (λ c. search needs)
-    (λ c. filled-more _ 6 _ _ _ _ (c .before .before .before .loop .inv) (c .before .before .loop-test .taken) (search needs) (c .wrap-uv .ensures))
+    (λ c κs. search needs)
     (λ c.
-    let a = c .before .before .args in
-    let l : length (a .t1) ≡ 6 = search needs in
-    filled-map wrapped (a .t1) off2 6 (a .t1) _ _ (c .before .loop .inv) (c .loop-test .left) l l))
+    let x = c .before .before .before .before .before .before .before .before .before .before .before .before .wrap-across .ensures in
+    let y = c .before .before .before .before .before .before .before .before .before .wrap-across2 .ensures in
+    let z = c .before .before .before .before .before .before .wrap-across3 .ensures in
+    rw (x .0, x .1, y .0, y .1, z .0, z .1) (each-map wrapped (c .before .before .before .before .before .before .before .before .before .before .before .before .before .before .before .args .t1) off2 6 (search needs))))
