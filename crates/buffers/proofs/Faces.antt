@@ -7,6 +7,8 @@ use native.Mathlib.Omega.{arith}
 use lib.ListN.{length, getD}
 use Rattle.face.specs.declared.vec.Vec2.{Vec2}
 use Rattle.face.specs.declared.vec.Vec3.{Vec3}
+use Rattle.face.specs.declared.face.Quad.{Quad}
+use Rattle.face.specs.declared.face.Hexagon.{Hexagon}
 use Rattle.face.specs.declared.inset.Inset.{Inset}
 use Rattle.face.specs.declared.inset.Inset.the-variants.{None, Centroid, SmallestEdge}
 use Rattle.face.specs.declared.inset.InsetQuad.{InsetQuad}
@@ -15,13 +17,14 @@ use Rattle.face.specs.declared.triangle.Triangle.{Triangle}
 use Rattle.face.specs.declared.triangle.Counts.{Counts}
 use Rattle.face.specs.Lists.{each, chain}
 use Rattle.face.specs.Vec.{off2, off3}
+use Rattle.face.specs.Inset.{insetQuadOf, insetHexagonOf}
 use Rattle.face.specs.Triangles.{insetTriangles, insetCounts, quadTriangles, hexagonTriangles, noTriangle, counts}
 use Rattle.face.proofs.Filling.{length-each}
 use Rattle.face.proofs.Laws.{index-count}
 use Rattle.buffers.specs.Mesh.{Vertex, Mesh, also, sizeOf}
 use Rattle.buffers.specs.Laying.{Buffers, four, three, two, corners, laid, lay, fits, laidIfFits}
-use Rattle.buffers.specs.Faces.{vertexAt, faceOf, quadMesh, hexagonMesh}
-use Rattle.buffers.proofs.Laid.{spread-each, spread-all}
+use Rattle.buffers.specs.Faces.{vertexAt, faceOf, quadMesh, hexagonMesh, plainQuadMesh, plainHexagonMesh}
+use Rattle.buffers.proofs.Laid.{spread-each, spread-all, chain-outer}
 use Rattle.buffers.proofs.Order.{same-four}
 use Rattle.buffers.proofs.Rooms.{room-is}
 
@@ -89,6 +92,36 @@ module _ (how : Inset) (at : Counts) (B : Buffers) where
       (laid (B .indices) (at .indices .0) (chain (λ j. corners (at .vertices .0) (getD (insetTriangles how 6 hexagonTriangles) j noTriangle)) (insetCounts how 6 4 .indices .0 / 3)))
   unfolding hexagonMesh
   hexagon-laid h = face-laid (insetCounts how 6 4 .vertices .0) (h .positions) (h .normal) (h .uvs) (insetTriangles how 6 hexagonTriangles) _ (counted how 6 hexagonTriangles .third) at B
+
+-- ---- a face without an inset has no points past its own
+module _ (at : Counts) (B : Buffers) where
+  pub plain-quad-laid : (q : Quad) → 4 ≤ length (q .positions) → 4 ≤ length (q .uvs) → lay (plainQuadMesh q) at B
+      ≡ four
+      (laid (B .vertices) (3 * at .vertices .0) (chain (λ j. three (getD (q .positions) j off3)) 4))
+      (laid (B .normals) (3 * at .vertices .0) (chain (λ j. three (q .normal)) 4))
+      (laid (B .uvs) (2 * at .vertices .0) (chain (λ j. two (getD (q .uvs) j off2)) 4))
+      (laid (B .indices) (at .indices .0) (chain (λ j. corners (at .vertices .0) (getD quadTriangles j noTriangle)) 2))
+  plain-quad-laid q p t =
+      quad-laid None at B (insetQuadOf None q)
+      ∙ same-four
+      (ap (laid (B .vertices) (3 * at .vertices .0)) (sym (chain-outer three (q .positions) (q .positions) off3 4 p)))
+      refl
+      (ap (laid (B .uvs) (2 * at .vertices .0)) (sym (chain-outer two (q .uvs) (q .uvs) off2 4 t)))
+      refl
+
+  pub plain-hexagon-laid : (h : Hexagon) → 6 ≤ length (h .positions) → 6 ≤ length (h .uvs) → lay (plainHexagonMesh h) at B
+      ≡ four
+      (laid (B .vertices) (3 * at .vertices .0) (chain (λ j. three (getD (h .positions) j off3)) 6))
+      (laid (B .normals) (3 * at .vertices .0) (chain (λ j. three (h .normal)) 6))
+      (laid (B .uvs) (2 * at .vertices .0) (chain (λ j. two (getD (h .uvs) j off2)) 6))
+      (laid (B .indices) (at .indices .0) (chain (λ j. corners (at .vertices .0) (getD hexagonTriangles j noTriangle)) 4))
+  plain-hexagon-laid h p t =
+      hexagon-laid None at B (insetHexagonOf None h)
+      ∙ same-four
+      (ap (laid (B .vertices) (3 * at .vertices .0)) (sym (chain-outer three (h .positions) (h .positions) off3 6 p)))
+      refl
+      (ap (laid (B .uvs) (2 * at .vertices .0)) (sym (chain-outer two (h .uvs) (h .uvs) off2 6 t)))
+      refl
 
 -- ---- what the test of room gives the writers, in the words of their size
 pub record Written (how : Inset) (v : ℕ) (tris : List Triangle) (at size : Counts) (B : Buffers) : Type 0 where

@@ -6,7 +6,7 @@ use Prim.Native.Nat.{ℕ, zero, suc, _+_, _*_, _<_, _≤_}
 use native.Mathlib.Nat.{add-suc, suc-add, add-zero}
 use native.Mathlib.Numerals.{add-one, towards-suc}
 use native.Mathlib.Omega.{arith}
-use lib.ListN.{length, set, getD, length-append, length-set}
+use lib.ListN.{length, set, getD, length-append, length-set, List·getD-append}
 use lib.Seq.{set-comm, set-set, getD-set-other, getD-set-same}
 use Rattle.face.specs.Lists.{each, chain}
 use Rattle.face.proofs.Filling.{length-each, each-map, each-all}
@@ -105,6 +105,11 @@ module _ {A B : Type 0} (f : A → List B) where
   -- of a list, by its places
   pub spread-all : (l : List A) (z : A) (m : ℕ) → length l ≡ m → spread f l ≡ chain (λ k. f (getD l k z)) m
   spread-all l z m e = ap (spread f) (sym (each-all l z m e)) ∙ spread-each (λ k. getD l k z) m
+
+-- of the first ones of a list, whatever comes after them
+pub chain-outer : {A B : Type 0} (f : A → List B) (l r : List A) (z : A) (m : ℕ) → m ≤ length l → chain (λ k. f (getD l k z)) m ≡ chain (λ k. f (getD (l ++ r) k z)) m
+chain-outer f l r z zero h = refl
+chain-outer f l r z (suc m) h = rw (chain-outer f l r z m (omega arith), List·getD-append l r z m (omega arith))
 
 -- ---- a loop that lays n numbers a turn: after k turns the first k pieces are laid
 module _ {A : Type 0} (g : ℕ → List A) where

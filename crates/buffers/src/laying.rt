@@ -4,12 +4,15 @@ ghost use mathlib.Core.Path.{_≡_};
 ghost use mathlib.Core.Bool.{true};
 ghost use Prim.Native.Nat.{_+_, _*_, _≤_};
 ghost use lib.ListN.{length, getD};
+ghost use Rattle.face.specs.declared.inset.Inset.the-variants.{None};
 ghost use Rattle.face.specs.Lists.{chain};
 ghost use Rattle.face.specs.Vec.{off2, off3};
 ghost use Rattle.face.specs.Triangles.{insetTriangles, insetCounts, quadTriangles, hexagonTriangles, noTriangle};
 ghost use Rattle.buffers.specs.Mesh.{also, sizeOf};
 ghost use Rattle.buffers.specs.Laying.{four, three, two, corners, laid, lay, reachesFloats, reaches, fits, laidIfFits};
-ghost use Rattle.buffers.specs.Faces.{quadMesh, hexagonMesh};
+ghost use Rattle.buffers.specs.Faces.{quadMesh, hexagonMesh, plainQuadMesh, plainHexagonMesh};
+use face::face::Hexagon;
+use face::face::Quad;
 use face::inset::Inset;
 use face::inset::InsetHexagon;
 use face::inset::InsetQuad;
@@ -101,6 +104,24 @@ fn put_normals(buffer: &mut [f32], at: usize, normal: Vec3, m: usize)
     }
 }
 
+fn put_four(buffer: &mut [f32], at: usize, ps: [Vec3; 4])
+    requires { ⌜ at + 12 ≤ length (now buffer) ⌝ }
+    ensures { λ _. ⌜ now (buffer .exit) ≡ laid (now (buffer .entry)) at (chain (λ k. three (getD ps k off3)) 4) ⌝ }
+{
+    for k in 0usize..4 {
+        put3(buffer, at + 3 * k, ps[k]);
+    }
+}
+
+fn put_six(buffer: &mut [f32], at: usize, ps: [Vec3; 6])
+    requires { ⌜ at + 18 ≤ length (now buffer) ⌝ }
+    ensures { λ _. ⌜ now (buffer .exit) ≡ laid (now (buffer .entry)) at (chain (λ k. three (getD ps k off3)) 6) ⌝ }
+{
+    for k in 0usize..6 {
+        put3(buffer, at + 3 * k, ps[k]);
+    }
+}
+
 fn put_eight(buffer: &mut [f32], at: usize, ps: [Vec3; 8], m: usize)
     requires { ⌜ (m ≤ 8) × (at + 3 * m ≤ length (now buffer)) ⌝ }
     ensures { λ _. ⌜ now (buffer .exit) ≡ laid (now (buffer .entry)) at (chain (λ k. three (getD ps k off3)) m) ⌝ }
@@ -116,6 +137,24 @@ fn put_twelve(buffer: &mut [f32], at: usize, ps: [Vec3; 12], m: usize)
 {
     for k in 0usize..m {
         put3(buffer, at + 3 * k, ps[k]);
+    }
+}
+
+fn put_four_uvs(buffer: &mut [f32], at: usize, ts: [Vec2; 4])
+    requires { ⌜ at + 8 ≤ length (now buffer) ⌝ }
+    ensures { λ _. ⌜ now (buffer .exit) ≡ laid (now (buffer .entry)) at (chain (λ k. two (getD ts k off2)) 4) ⌝ }
+{
+    for k in 0usize..4 {
+        put2(buffer, at + 2 * k, ts[k]);
+    }
+}
+
+fn put_six_uvs(buffer: &mut [f32], at: usize, ts: [Vec2; 6])
+    requires { ⌜ at + 12 ≤ length (now buffer) ⌝ }
+    ensures { λ _. ⌜ now (buffer .exit) ≡ laid (now (buffer .entry)) at (chain (λ k. two (getD ts k off2)) 6) ⌝ }
+{
+    for k in 0usize..6 {
+        put2(buffer, at + 2 * k, ts[k]);
     }
 }
 
@@ -261,6 +300,100 @@ pub fn lay_hexagon(
         indices.len(),
     ) {
         put_hexagon(how, h, at, vertices, normals, uvs, indices);
+        return true;
+    }
+    false
+}
+
+fn put_plain_quad(
+    q: Quad,
+    at: Counts,
+    vertices: &mut [f32],
+    normals: &mut [f32],
+    uvs: &mut [f32],
+    indices: &mut [u16],
+)
+    requires { ⌜ fits at (insetCounts None 4 2) (four (now vertices) (now normals) (now uvs) (now indices)) ≡ true ⌝ }
+    ensures { λ _. ⌜ four (now (vertices .exit)) (now (normals .exit)) (now (uvs .exit)) (now (indices .exit)) ≡ lay (plainQuadMesh q) at (four (now (vertices .entry)) (now (normals .entry)) (now (uvs .entry)) (now (indices .entry))) ⌝ }
+{
+    let b = at.vertices.0;
+    let ps = q.positions;
+    let ts = q.uvs;
+    put_four(vertices, 3 * b, ps);
+    put_normals(normals, 3 * b, q.normal, 4);
+    put_four_uvs(uvs, 2 * b, ts);
+    put_quad_triangles(indices, at.indices.0, Inset::None, b, 2);
+}
+
+// A quad without an inset, as it is: the same as `lay_quad` of it at `Inset::None`.
+pub fn lay_plain_quad(
+    q: Quad,
+    at: Counts,
+    vertices: &mut [f32],
+    normals: &mut [f32],
+    uvs: &mut [f32],
+    indices: &mut [u16],
+) -> bool
+    ensures room { λ r. ⌜ r ≡ fits at (sizeOf (plainQuadMesh q)) (four (now (vertices .entry)) (now (normals .entry)) (now (uvs .entry)) (now (indices .entry))) ⌝ }
+    ensures buffers { λ _. ⌜ four (now (vertices .exit)) (now (normals .exit)) (now (uvs .exit)) (now (indices .exit)) ≡ laidIfFits (plainQuadMesh q) at (four (now (vertices .entry)) (now (normals .entry)) (now (uvs .entry)) (now (indices .entry))) ⌝ }
+{
+    let size = face::triangle::quad_counts(Inset::None);
+    if has_room(
+        at,
+        size,
+        vertices.len(),
+        normals.len(),
+        uvs.len(),
+        indices.len(),
+    ) {
+        put_plain_quad(q, at, vertices, normals, uvs, indices);
+        return true;
+    }
+    false
+}
+
+fn put_plain_hexagon(
+    h: Hexagon,
+    at: Counts,
+    vertices: &mut [f32],
+    normals: &mut [f32],
+    uvs: &mut [f32],
+    indices: &mut [u16],
+)
+    requires { ⌜ fits at (insetCounts None 6 4) (four (now vertices) (now normals) (now uvs) (now indices)) ≡ true ⌝ }
+    ensures { λ _. ⌜ four (now (vertices .exit)) (now (normals .exit)) (now (uvs .exit)) (now (indices .exit)) ≡ lay (plainHexagonMesh h) at (four (now (vertices .entry)) (now (normals .entry)) (now (uvs .entry)) (now (indices .entry))) ⌝ }
+{
+    let b = at.vertices.0;
+    let ps = h.positions;
+    let ts = h.uvs;
+    put_six(vertices, 3 * b, ps);
+    put_normals(normals, 3 * b, h.normal, 6);
+    put_six_uvs(uvs, 2 * b, ts);
+    put_hexagon_triangles(indices, at.indices.0, Inset::None, b, 4);
+}
+
+// The same of a hexagon.
+pub fn lay_plain_hexagon(
+    h: Hexagon,
+    at: Counts,
+    vertices: &mut [f32],
+    normals: &mut [f32],
+    uvs: &mut [f32],
+    indices: &mut [u16],
+) -> bool
+    ensures room { λ r. ⌜ r ≡ fits at (sizeOf (plainHexagonMesh h)) (four (now (vertices .entry)) (now (normals .entry)) (now (uvs .entry)) (now (indices .entry))) ⌝ }
+    ensures buffers { λ _. ⌜ four (now (vertices .exit)) (now (normals .exit)) (now (uvs .exit)) (now (indices .exit)) ≡ laidIfFits (plainHexagonMesh h) at (four (now (vertices .entry)) (now (normals .entry)) (now (uvs .entry)) (now (indices .entry))) ⌝ }
+{
+    let size = face::triangle::hexagon_counts(Inset::None);
+    if has_room(
+        at,
+        size,
+        vertices.len(),
+        normals.len(),
+        uvs.len(),
+        indices.len(),
+    ) {
+        put_plain_hexagon(h, at, vertices, normals, uvs, indices);
         return true;
     }
     false

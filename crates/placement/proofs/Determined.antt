@@ -5,13 +5,15 @@ use mathlib.Core.List.{List}
 use Prim.Native.Nat.{ℕ}
 use lib.Ieee.{Float}
 use Rattle.face.specs.declared.vec.Vec3.{Vec3}
+use Rattle.face.specs.declared.face.Quad.{Quad}
+use Rattle.face.specs.declared.face.Hexagon.{Hexagon}
 use Rattle.face.specs.declared.inset.InsetQuad.{InsetQuad}
 use Rattle.face.specs.declared.inset.InsetHexagon.{InsetHexagon}
 use Rattle.answer.proofs.Determined.{determined}
 use Rattle.placement.specs.declared.options.FaceOptions.{FaceOptions}
 use Rattle.placement.specs.declared.placement.Placement.{Placement}
 use Rattle.placement.specs.Options.{entryCount, isTable, optionAt}
-use Rattle.placement.specs.Placing.{placed, placedNormal, halfTurned, placedQuad, placedHexagon, halfTurnedHexagon, placementInRange}
+use Rattle.placement.specs.Placing.{placed, placedNormal, halfTurned, placedQuad, placedHexagon, halfTurnedHexagon, placedPlainQuad, placedPlainHexagon, halfTurnedPlainHexagon, placementInRange}
 
 pub entries-determined : (ms : List ℕ) (r s : ℕ) → r ≡ entryCount ms → s ≡ entryCount ms → r ≡ s
 entries-determined ms r s p q = determined p q
@@ -39,6 +41,15 @@ place-hexagon-determined w f r s p q = determined p q
 
 pub half-turn-hexagon-determined : (f r s : InsetHexagon) → r ≡ halfTurnedHexagon f → s ≡ halfTurnedHexagon f → r ≡ s
 half-turn-hexagon-determined f r s p q = determined p q
+
+pub place-plain-quad-determined : (w : Placement) (f r s : Quad) → r ≡ placedPlainQuad w f → s ≡ placedPlainQuad w f → r ≡ s
+place-plain-quad-determined w f r s p q = determined p q
+
+pub place-plain-hexagon-determined : (w : Placement) (f r s : Hexagon) → r ≡ placedPlainHexagon w f → s ≡ placedPlainHexagon w f → r ≡ s
+place-plain-hexagon-determined w f r s p q = determined p q
+
+pub half-turn-plain-hexagon-determined : (f r s : Hexagon) → r ≡ halfTurnedPlainHexagon f → s ≡ halfTurnedPlainHexagon f → r ≡ s
+half-turn-plain-hexagon-determined f r s p q = determined p q
 
 pub placement-in-range-determined : (w : Placement) (r s : Bool) → r ≡ placementInRange w → s ≡ placementInRange w → r ≡ s
 placement-in-range-determined w r s p q = determined p q

@@ -1,3 +1,4 @@
 pub mod Bench
 pub mod Determined
+pub mod Plain
 mod Counting

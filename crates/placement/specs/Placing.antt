@@ -3,6 +3,8 @@ use mathlib.Core.Bool.{Bool, true, _&&_}
 use mathlib.Core.List.{map}
 use lib.Ieee.{Float, neg}
 use Rattle.face.specs.declared.vec.Vec3.{Vec3}
+use Rattle.face.specs.declared.face.Quad.{Quad}
+use Rattle.face.specs.declared.face.Hexagon.{Hexagon}
 use Rattle.face.specs.declared.inset.InsetQuad.{InsetQuad}
 use Rattle.face.specs.declared.inset.InsetHexagon.{InsetHexagon}
 use Rattle.face.specs.Vec.{v3, plus, times, plus3}
@@ -48,6 +50,16 @@ placedHexagon s h = record { positions = map (placed s) (h .positions); normal =
 
 abbrev pub halfTurnedHexagon : InsetHexagon → InsetHexagon
 halfTurnedHexagon h = record { positions = map halfTurned (h .positions); normal = halfTurned (h .normal); uvs = h .uvs }
+
+-- the same of a face by itself, without an inset
+abbrev pub placedPlainQuad : Placement → Quad → Quad
+placedPlainQuad s q = record { positions = map (placed s) (q .positions); normal = placedNormal s (q .normal); uvs = q .uvs }
+
+abbrev pub placedPlainHexagon : Placement → Hexagon → Hexagon
+placedPlainHexagon s h = record { positions = map (placed s) (h .positions); normal = placedNormal s (h .normal); uvs = h .uvs }
+
+abbrev pub halfTurnedPlainHexagon : Hexagon → Hexagon
+halfTurnedPlainHexagon h = record { positions = map halfTurned (h .positions); normal = halfTurned (h .normal); uvs = h .uvs }
 
 -- every number that is supplied is in range
 abbrev pub choiceInRange : Choice3 → Bool

@@ -1,7 +1,9 @@
 // Where a face stands: scaled, turned and moved, in this order, each if supplied.
 ghost use mathlib.Core.Path.{_≡_};
 ghost use mathlib.Core.List.{map};
-ghost use Rattle.placement.specs.Placing.{scaled, turned, moved, placed, placedNormal, halfTurned, placedQuad, placedHexagon, halfTurnedHexagon, choiceInRange, turnInRange, placementInRange};
+ghost use Rattle.placement.specs.Placing.{scaled, turned, moved, placed, placedNormal, halfTurned, placedQuad, placedHexagon, halfTurnedHexagon, placedPlainQuad, placedPlainHexagon, halfTurnedPlainHexagon, choiceInRange, turnInRange, placementInRange};
+use face::face::Hexagon;
+use face::face::Quad;
 use face::inset::InsetHexagon;
 use face::inset::InsetQuad;
 use face::vec::Vec3;
@@ -93,6 +95,26 @@ pub fn half_turn(p: Vec3) -> Vec3
     }
 }
 
+fn place_four(s: Placement, ps: [Vec3; 4]) -> [Vec3; 4]
+    ensures { λ r. ⌜ r ≡ map (placed s) ps ⌝ }
+{
+    let mut out = ps;
+    for i in 0usize..4 {
+        out[i] = place_point(s, ps[i]);
+    }
+    out
+}
+
+fn place_six(s: Placement, ps: [Vec3; 6]) -> [Vec3; 6]
+    ensures { λ r. ⌜ r ≡ map (placed s) ps ⌝ }
+{
+    let mut out = ps;
+    for i in 0usize..6 {
+        out[i] = place_point(s, ps[i]);
+    }
+    out
+}
+
 fn place_eight(s: Placement, ps: [Vec3; 8]) -> [Vec3; 8]
     ensures { λ r. ⌜ r ≡ map (placed s) ps ⌝ }
 {
@@ -109,6 +131,16 @@ fn place_twelve(s: Placement, ps: [Vec3; 12]) -> [Vec3; 12]
     let mut out = ps;
     for i in 0usize..12 {
         out[i] = place_point(s, ps[i]);
+    }
+    out
+}
+
+fn half_turn_six(ps: [Vec3; 6]) -> [Vec3; 6]
+    ensures { λ r. ⌜ r ≡ map halfTurned ps ⌝ }
+{
+    let mut out = ps;
+    for i in 0usize..6 {
+        out[i] = half_turn(ps[i]);
     }
     out
 }
@@ -160,6 +192,49 @@ pub fn half_turn_hexagon(h: InsetHexagon) -> InsetHexagon
     let normal = half_turn(h.normal);
     let uvs = h.uvs;
     InsetHexagon {
+        positions: positions,
+        normal: normal,
+        uvs: uvs,
+    }
+}
+
+// A face without an inset, by itself: half the points.
+pub fn place_plain_quad(s: Placement, q: Quad) -> Quad
+    ensures { λ r. ⌜ r ≡ placedPlainQuad s q ⌝ }
+{
+    let ps = q.positions;
+    let positions = place_four(s, ps);
+    let normal = place_normal(s, q.normal);
+    let uvs = q.uvs;
+    Quad {
+        positions: positions,
+        normal: normal,
+        uvs: uvs,
+    }
+}
+
+pub fn place_plain_hexagon(s: Placement, h: Hexagon) -> Hexagon
+    ensures { λ r. ⌜ r ≡ placedPlainHexagon s h ⌝ }
+{
+    let ps = h.positions;
+    let positions = place_six(s, ps);
+    let normal = place_normal(s, h.normal);
+    let uvs = h.uvs;
+    Hexagon {
+        positions: positions,
+        normal: normal,
+        uvs: uvs,
+    }
+}
+
+pub fn half_turn_plain_hexagon(h: Hexagon) -> Hexagon
+    ensures { λ r. ⌜ r ≡ halfTurnedPlainHexagon h ⌝ }
+{
+    let ps = h.positions;
+    let positions = half_turn_six(ps);
+    let normal = half_turn(h.normal);
+    let uvs = h.uvs;
+    Hexagon {
         positions: positions,
         normal: normal,
         uvs: uvs,

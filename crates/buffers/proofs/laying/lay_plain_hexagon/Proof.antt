@@ -1,0 +1,35 @@
+-- `lay_plain_hexagon`: the size is the counts, and the test says whether there is room. Assumes nothing.
+use borrow.Author.Needs.{needs}
+use mathlib.Core.Path.{sym, ap, _∙_}
+use denote.Ref.{now}
+use Rattle.face.specs.declared.inset.Inset.the-variants.{None}
+use Rattle.face.specs.declared.triangle.Counts.{Counts}
+use Rattle.buffers.specs.Laying.{four, fits}
+use Rattle.buffers.specs.Faces.{plainHexagonMesh}
+use Rattle.buffers.proofs.Faces.{hexagon-size, laid-so, laid-not, sized}
+use Rattle.buffers.proofs.laying.lay_plain_hexagon.Statement.{statement}
+use Rattle.buffers.proofs.laying.lay_plain_hexagon.Tie as tie
+
+pub lay-plain-hexagon-spec : {M : Type 1} → statement M
+lay-plain-hexagon-spec =
+    tie.close
+    (tie.spec
+    (λ c κs. search needs)
+    (λ c κs. search needs)
+    (λ c κs.
+    let a = c .before .before .before .before .before .before .before .before .before .before .before .args in
+    ap (λ (s : Counts). fits (a .at) s (four (now (a .vertices)) (now (a .normals)) (now (a .uvs)) (now (a .indices)))) (sym (c .before .before .before .before .before .before .hexagon-counts .ensures)) ∙ sym (c .before .before .before .before .before .has-room .ensures) ∙ c .before .before .before .before .if1 .taken)
+    (λ c. search needs)
+    (λ c. search needs)
+    (λ c. search needs)
+    (λ c. search needs)
+    (λ c.
+    let a = c .before .before .before .before .before .before .before .before .before .before .before .before .before .before .before .before .before .before .before .before .args in
+    let B = four (now (a .vertices)) (now (a .normals)) (now (a .uvs)) (now (a .indices)) in
+    let e = sized (plainHexagonMesh (a .h)) (a .at) B _ _ _ _ (c .before .before .before .before .before .before .before .before .before .before .before .before .before .before .before .hexagon-counts .ensures) (hexagon-size None _) (c .before .before .before .before .before .before .before .before .before .before .before .before .before .before .has-room .ensures) (c .before .before .before .before .before .before .before .before .before .before .before .before .before .if1 .taken) in
+    (sym e, c .before .before .before .before .before .before .before .before .put-plain-hexagon .ensures ∙ laid-so _ (a .at) B e))
+    (λ c.
+    let a = c .before .before .before .before .before .before .before .args in
+    let B = four (now (a .vertices)) (now (a .normals)) (now (a .uvs)) (now (a .indices)) in
+    let e = sized (plainHexagonMesh (a .h)) (a .at) B _ _ _ _ (c .before .before .hexagon-counts .ensures) (hexagon-size None _) (c .before .has-room .ensures) (c .if1 .left) in
+    (sym e, laid-not (plainHexagonMesh (a .h)) (a .at) B e)))
