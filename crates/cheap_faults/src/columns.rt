@@ -1,10 +1,10 @@
 // Cheap columns with some faults, and what their calls should come to.
 use answer::answer::Answer;
+use cheap_column::CheapColumn;
 use face::vec::Vec2;
 use known::answers;
 use known::lists;
 use known::lists::Lengths;
-use mesh::cheap_column::CheapColumn;
 
 // The room of a list of floats and of the list of indices.
 const FLOATS: usize = 40;
@@ -203,9 +203,9 @@ fn built(
 ) -> Answer {
     let job = column(j);
     if j.call == 1 {
-        return mesh::cheap_column::build(job, corners, vertices, normals, uvs, indices);
+        return cheap_column::build(job, corners, vertices, normals, uvs, indices);
     }
-    mesh::cheap_column::face(job, corners, j.face, vertices, normals, uvs, indices)
+    cheap_column::face(job, corners, j.face, vertices, normals, uvs, indices)
 }
 
 // The same, with as much of each list as the case lends.
@@ -244,7 +244,7 @@ fn called(
 ) -> Answer {
     let a = lists::at_most(j.corners, corners.len());
     if j.call == 0 {
-        return mesh::cheap_column::plan(column(j), &corners[..a]);
+        return cheap_column::plan(column(j), &corners[..a]);
     }
     with_lent(j, &corners[..a], vertices, normals, uvs, indices)
 }

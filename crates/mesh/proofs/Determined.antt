@@ -13,9 +13,6 @@ use Rattle.buffers.specs.Laying.{Buffers, four}
 use Rattle.mesh.specs.declared.stored.CentroidAnswer.{CentroidAnswer}
 use Rattle.mesh.specs.declared.stored.UvCentroidAnswer.{UvCentroidAnswer}
 use Rattle.mesh.specs.Stored.{held, scaled, shifted, textureScaled, scaleAnswer, offsetAnswer, textureScaleAnswer, centroidOf, uvCentroidOf}
-use Rattle.mesh.specs.Merge.{mergeAnswer, merged}
-use Rattle.mesh.specs.declared.cheap_column.CheapColumn.{CheapColumn}
-use Rattle.mesh.specs.CheapColumn.{planned, wholeAnswer, faceAnswer, built, faced}
 
 pub is-held-determined : (c : Counts) (v n t i : ℕ) (r s : Bool) → r ≡ held c v n t i → s ≡ held c v n t i → r ≡ s
 is-held-determined c v n t i r s p q = determined p q
@@ -38,16 +35,3 @@ module _ (c : Counts) (v n t : List Float) (i : List ℕ) where
 
   pub uv-centroid-determined : (r s : UvCentroidAnswer) → r ≡ uvCentroidOf c lent → s ≡ uvCentroidOf c lent → r ≡ s
   uv-centroid-determined r s p q = determined p q
-
-pub merge-determined : (s : Counts) (S : Buffers) (t : Counts) (T : Buffers) (x y : Answer) (C D : Buffers) → x ≡ mergeAnswer s S t T → y ≡ mergeAnswer s S t T → C ≡ merged s S t T → D ≡ merged s S t T → (x ≡ y) × (C ≡ D)
-merge-determined s S t T x y C D p q h k = (determined p q, determined h k)
-
-module _ (job : CheapColumn) (l : List Float) where
-  pub plan-determined : (x y : Answer) → x ≡ planned job l → y ≡ planned job l → x ≡ y
-  plan-determined x y p q = determined p q
-
-  pub build-determined : (B : Buffers) (x y : Answer) (C D : Buffers) → x ≡ wholeAnswer job l B → y ≡ wholeAnswer job l B → C ≡ built job l B → D ≡ built job l B → (x ≡ y) × (C ≡ D)
-  build-determined B x y C D p q h k = (determined p q, determined h k)
-
-  pub face-determined : (n : ℕ) (B : Buffers) (x y : Answer) (C D : Buffers) → x ≡ faceAnswer job l n B → y ≡ faceAnswer job l n B → C ≡ faced job l n B → D ≡ faced job l n B → (x ≡ y) × (C ≡ D)
-  face-determined n B x y C D p q h k = (determined p q, determined h k)

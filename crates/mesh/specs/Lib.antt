@@ -1,4 +1,2 @@
 pub mod Jobs
 pub mod Stored
-pub mod Merge
-pub mod CheapColumn

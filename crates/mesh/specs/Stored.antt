@@ -44,6 +44,10 @@ pointFrom l at = v3 (getD l at nan) (getD l (at + 1) nan) (getD l (at + 2) nan)
 abbrev pub uvFrom : List Float → ℕ → Vec2
 uvFrom l at = v2 (getD l at nan) (getD l (at + 1) nan)
 
+-- the corners of a hexagon in a list of twelve numbers
+abbrev pub cornerFrom : List Float → ℕ → Vec2
+cornerFrom l k = uvFrom l (2 * k)
+
 abbrev pub pointsOf : ℕ → List Float → List Vec3
 pointsOf m l = each (λ k. pointFrom l (3 * k)) m
 

@@ -24,13 +24,7 @@ pub struct UvCentroidAnswer {
 }
 
 // Whether lists of these lengths hold what the counts say.
-pub(crate) fn is_held(
-    counts: Counts,
-    vertices: usize,
-    normals: usize,
-    uvs: usize,
-    indices: usize,
-) -> bool
+pub fn is_held(counts: Counts, vertices: usize, normals: usize, uvs: usize, indices: usize) -> bool
     ensures { λ r. ⌜ r ≡ held counts vertices normals uvs indices ⌝ }
 {
     let v = counts.vertices.0;

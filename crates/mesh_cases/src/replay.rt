@@ -8,11 +8,11 @@ use crate::cells::KEPT;
 use crate::cells::KEPT_INDEX;
 use crate::cells::OUTPUTS;
 use answer::answer::Answer;
+use cheap_column::CheapColumn;
 use face::triangle::Counts;
 use face::vec::Vec2;
 use face::vec::Vec3;
 use known::answers;
-use mesh::cheap_column::CheapColumn;
 ghost use Prim.Native.Nat.{_+_, _≤_};
 
 pub(crate) enum Part {
@@ -271,7 +271,7 @@ fn merge_lists(
     uvs: &mut [f32; FLOATS],
     indices: &mut [u16; INDICES],
 ) -> Answer {
-    mesh::merge::merge(
+    merge::merge(
         source,
         from_vertices,
         from_normals,
@@ -367,9 +367,9 @@ fn built(
     indices: &mut [u16; INDICES],
 ) -> Answer {
     if single {
-        return mesh::cheap_column::face(job, corners, 0, vertices, normals, uvs, indices);
+        return cheap_column::face(job, corners, 0, vertices, normals, uvs, indices);
     }
-    mesh::cheap_column::build(job, corners, vertices, normals, uvs, indices)
+    cheap_column::build(job, corners, vertices, normals, uvs, indices)
 }
 
 fn column(words: &[u32; CELLS], corners: &[f32; 12], single: bool) -> [u32; OUTPUTS] {
@@ -410,7 +410,7 @@ fn column_mark(
     whole: &[u32; OUTPUTS],
     single: &[u32; OUTPUTS],
 ) -> u32 {
-    let plan = mesh::cheap_column::plan(job(words), corners);
+    let plan = cheap_column::plan(job(words), corners);
     if answers::judged(plan, 0, 12, 48) != answers::RIGHT {
         return PLAN;
     }

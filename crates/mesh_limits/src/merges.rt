@@ -217,7 +217,7 @@ fn onto(
     let i = l.indices;
     let source = m.source;
     let target = m.target;
-    mesh::merge::merge(
+    merge::merge(
         source,
         from_vertices,
         from_normals,

@@ -1,0 +1,2 @@
+pub mod Cheap
+pub mod Determined

@@ -1,0 +1,289 @@
+// The cheap column, after `cheap_hexagonal_column` of hexx: a job of one face, whose vertices the
+// top and the sides share. It has no bottom.
+ghost use mathlib.Core.Path.{_≡_};
+ghost use mathlib.Core.List.{map};
+ghost use Prim.Native.Nat.{_+_, _≤_};
+ghost use lib.ListN.{length};
+ghost use Rattle.face.specs.Lists.{each};
+ghost use Rattle.face.specs.Vec.{upright, minus3};
+ghost use Rattle.buffers.specs.Mesh.{none};
+ghost use Rattle.buffers.specs.Laying.{four, three, two, corners, spread, laid, layAll};
+ghost use Rattle.mesh.specs.Stored.{cornerFrom};
+ghost use Rattle.cheap_column.specs.CheapColumn.{rangeOf, cheapTriangles, cheapFaces, planned, wholeAnswer, faceAnswer, built, faced};
+use answer::answer::Answer;
+use answer::answer::Refusal;
+use face::triangle::Counts;
+use face::triangle::IndexPlace;
+use face::triangle::VertexNumber;
+use face::vec::Vec2;
+use face::vec::Vec3;
+
+// The middle of the hexagon and the height of its top; the six corners come in a list of twelve
+// numbers, the hexagon's own as the layout places them.
+pub struct CheapColumn {
+    pub centre: Vec2,
+    pub height: f32,
+}
+
+const INDICES: [u16; 48] = [
+    0,
+    2,
+    1,
+    3,
+    5,
+    4,
+    0,
+    5,
+    3,
+    3,
+    2,
+    0,
+    0,
+    1,
+    7,
+    7,
+    6,
+    0,
+    1,
+    2,
+    8,
+    8,
+    7,
+    1,
+    2,
+    3,
+    9,
+    9,
+    8,
+    2,
+    3,
+    4,
+    10,
+    10,
+    9,
+    3,
+    4,
+    5,
+    11,
+    11,
+    10,
+    4,
+    5,
+    0,
+    6,
+    6,
+    11,
+    5,
+];
+
+fn corner_at(corners: &[f32], k: usize) -> Vec2
+    requires { ⌜ (length (now corners) ≡ 12) × (k ≤ 5) ⌝ }
+    ensures { λ r. ⌜ r ≡ cornerFrom (now (corners .entry)) k ⌝ }
+{
+    Vec2 {
+        x: corners[2 * k],
+        y: corners[2 * k + 1],
+    }
+}
+
+fn corners_of(corners: &[f32]) -> [Vec2; 6]
+    requires { ⌜ length (now corners) ≡ 12 ⌝ }
+    ensures { λ r. ⌜ r ≡ each (cornerFrom (now (corners .entry))) 6 ⌝ }
+{
+    let mut out = [Vec2 { x: 0.0, y: 0.0 }; 6];
+    for k in 0usize..6 {
+        out[k] = corner_at(corners, k);
+    }
+    out
+}
+
+fn raise(p: Vec2, y: f32) -> Vec3
+    ensures { λ r. ⌜ r ≡ upright p y ⌝ }
+{
+    Vec3 {
+        x: p.x,
+        y: y,
+        z: p.y,
+    }
+}
+
+fn raise_six(cs: [Vec2; 6], y: f32) -> [Vec3; 6]
+    ensures { λ r. ⌜ r ≡ map (λ p. upright p y) cs ⌝ }
+{
+    let mut out = [Vec3 {
+        x: 0.0,
+        y: 0.0,
+        z: 0.0,
+    }; 6];
+    for k in 0usize..6 {
+        out[k] = raise(cs[k], y);
+    }
+    out
+}
+
+// From the middle of the top to each corner of it, as long as it is.
+fn normals_of(tops: [Vec3; 6], middle: Vec3) -> [Vec3; 6]
+    ensures { λ r. ⌜ r ≡ map (λ p. minus3 p middle) tops ⌝ }
+{
+    let mut out = tops;
+    for k in 0usize..6 {
+        out[k] = face::vec::sub3(tops[k], middle);
+    }
+    out
+}
+
+fn is_in_range(job: CheapColumn, corners: &[f32]) -> bool
+    ensures { λ r. ⌜ r ≡ rangeOf job (now (corners .entry)) ⌝ }
+{
+    if answer::check::all_in_range(corners) {
+        if answer::check::in_range2(job.centre) {
+            return answer::check::in_range(job.height);
+        }
+    }
+    false
+}
+
+fn put3(buffer: &mut [f32], at: usize, p: Vec3)
+    requires { ⌜ at + 3 ≤ length (now buffer) ⌝ }
+    ensures { λ _. ⌜ now (buffer .exit) ≡ laid (now (buffer .entry)) at (three p) ⌝ }
+{
+    buffer[at] = p.x;
+    buffer[at + 1] = p.y;
+    buffer[at + 2] = p.z;
+}
+
+fn put2(buffer: &mut [f32], at: usize, p: Vec2)
+    requires { ⌜ at + 2 ≤ length (now buffer) ⌝ }
+    ensures { λ _. ⌜ now (buffer .exit) ≡ laid (now (buffer .entry)) at (two p) ⌝ }
+{
+    buffer[at] = p.x;
+    buffer[at + 1] = p.y;
+}
+
+// A ring of six points, or of six normals.
+fn put_ring(buffer: &mut [f32], at: usize, ps: [Vec3; 6])
+    requires { ⌜ at + 18 ≤ length (now buffer) ⌝ }
+    ensures { λ _. ⌜ now (buffer .exit) ≡ laid (now (buffer .entry)) at (spread three ps) ⌝ }
+{
+    for k in 0usize..6 {
+        put3(buffer, at + 3 * k, ps[k]);
+    }
+}
+
+fn put_ring_uvs(buffer: &mut [f32], at: usize, ts: [Vec2; 6])
+    requires { ⌜ at + 12 ≤ length (now buffer) ⌝ }
+    ensures { λ _. ⌜ now (buffer .exit) ≡ laid (now (buffer .entry)) at (spread two ts) ⌝ }
+{
+    for k in 0usize..6 {
+        put2(buffer, at + 2 * k, ts[k]);
+    }
+}
+
+fn put_indices(buffer: &mut [u16])
+    requires { ⌜ 48 ≤ length (now buffer) ⌝ }
+    ensures { λ _. ⌜ now (buffer .exit) ≡ laid (now (buffer .entry)) 0 (spread (corners 0) cheapTriangles) ⌝ }
+{
+    let table = INDICES;
+    for k in 0usize..48 {
+        buffer[k] = table[k];
+    }
+}
+
+// The top and the foot share corners, normals and uvs, so each is worked out once and laid twice.
+fn put_column(
+    job: CheapColumn,
+    corners: &[f32],
+    vertices: &mut [f32],
+    normals: &mut [f32],
+    uvs: &mut [f32],
+    indices: &mut [u16],
+)
+    requires { ⌜ (length (now corners) ≡ 12) × (36 ≤ length (now vertices)) × (36 ≤ length (now normals)) × (24 ≤ length (now uvs)) × (48 ≤ length (now indices)) ⌝ }
+    ensures { λ _. ⌜ four (now (vertices .exit)) (now (normals .exit)) (now (uvs .exit)) (now (indices .exit)) ≡ layAll (cheapFaces job (now (corners .entry))) none (four (now (vertices .entry)) (now (normals .entry)) (now (uvs .entry)) (now (indices .entry))) ⌝ }
+{
+    let height = job.height;
+    let cs = corners_of(corners);
+    let tops = raise_six(cs, height);
+    let feet = raise_six(cs, 0.0);
+    let ns = normals_of(tops, raise(job.centre, height));
+    let ts = face::uv_mapping::wrap_six(cs);
+    put_ring(vertices, 0, tops);
+    put_ring(vertices, 18, feet);
+    put_ring(normals, 0, ns);
+    put_ring(normals, 18, ns);
+    put_ring_uvs(uvs, 0, ts);
+    put_ring_uvs(uvs, 12, ts);
+    put_indices(indices);
+}
+
+// The counts of the job, or why it is refused.
+pub fn plan(job: CheapColumn, corners: &[f32]) -> Answer
+    ensures { λ r. ⌜ r ≡ planned job (now (corners .entry)) ⌝ }
+{
+    if corners.len() != 12 {
+        return Answer::Refused(Refusal::Shape);
+    }
+    if is_in_range(job, corners) {
+        return answer::answer::limit(Counts {
+            vertices: VertexNumber(12),
+            indices: IndexPlace(48),
+        });
+    }
+    Answer::Refused(Refusal::Range)
+}
+
+pub fn build(
+    job: CheapColumn,
+    corners: &[f32],
+    vertices: &mut [f32],
+    normals: &mut [f32],
+    uvs: &mut [f32],
+    indices: &mut [u16],
+) -> Answer
+    ensures answer { λ r. ⌜ r ≡ wholeAnswer job (now (corners .entry)) (four (now (vertices .entry)) (now (normals .entry)) (now (uvs .entry)) (now (indices .entry))) ⌝ }
+    ensures buffers { λ _. ⌜ four (now (vertices .exit)) (now (normals .exit)) (now (uvs .exit)) (now (indices .exit)) ≡ built job (now (corners .entry)) (four (now (vertices .entry)) (now (normals .entry)) (now (uvs .entry)) (now (indices .entry))) ⌝ }
+{
+    let answer = answer::answer::room(
+        plan(job, corners),
+        vertices.len(),
+        normals.len(),
+        uvs.len(),
+        indices.len(),
+    );
+    match answer {
+        Answer::Refused(why) => Answer::Refused(why),
+        Answer::Done(counts) => {
+            put_column(job, corners, vertices, normals, uvs, indices);
+            Answer::Done(counts)
+        }
+    }
+}
+
+// The one face of the job, whose number is 0.
+pub fn face(
+    job: CheapColumn,
+    corners: &[f32],
+    number: usize,
+    vertices: &mut [f32],
+    normals: &mut [f32],
+    uvs: &mut [f32],
+    indices: &mut [u16],
+) -> Answer
+    ensures answer { λ r. ⌜ r ≡ faceAnswer job (now (corners .entry)) number (four (now (vertices .entry)) (now (normals .entry)) (now (uvs .entry)) (now (indices .entry))) ⌝ }
+    ensures buffers { λ _. ⌜ four (now (vertices .exit)) (now (normals .exit)) (now (uvs .exit)) (now (indices .exit)) ≡ faced job (now (corners .entry)) number (four (now (vertices .entry)) (now (normals .entry)) (now (uvs .entry)) (now (indices .entry))) ⌝ }
+{
+    let answer = answer::answer::room(
+        answer::answer::name(plan(job, corners), number, 1),
+        vertices.len(),
+        normals.len(),
+        uvs.len(),
+        indices.len(),
+    );
+    match answer {
+        Answer::Refused(why) => Answer::Refused(why),
+        Answer::Done(counts) => {
+            put_column(job, corners, vertices, normals, uvs, indices);
+            Answer::Done(counts)
+        }
+    }
+}

@@ -1,0 +1,5 @@
+-- What callers cite is public; the rest is how loops are proved.
+pub mod Merging
+pub mod Determined
+pub mod Bench
+mod Copying
