@@ -4,6 +4,7 @@ use mathlib.Core.List.{List}
 use Prim.Native.Nat.{ℕ}
 use lib.Ieee.{Float}
 use Rattle.face.specs.declared.vec.Vec2.{Vec2}
+use Rattle.face.specs.declared.face.Hexagon.{Hexagon}
 use Rattle.face.specs.declared.inset.InsetHexagon.{InsetHexagon}
 use Rattle.face.specs.declared.uv_mapping.UvOptions.{UvOptions}
 use Rattle.answer.specs.declared.answer.Answer.{Answer}
@@ -12,7 +13,7 @@ use Rattle.placement.specs.declared.placement.Placement.{Placement}
 use Rattle.buffers.specs.Laying.{Buffers}
 use Rattle.mesh.specs.Stored.{uvFrom}
 use Rattle.plane_builder.specs.declared.Plane.{Plane}
-use Rattle.plane_builder.specs.Plane.{settled, alteredHexagon, cornersOf, planned, wholeAnswer, faceAnswer, built, faced}
+use Rattle.plane_builder.specs.Plane.{settled, alteredHexagon, alteredPlainHexagon, cornersOf, planned, wholeAnswer, faceAnswer, built, faced}
 
 module _ (job : Plane) (l ns : List Float) (ms : List ℕ) where
   pub plan-determined : (x y : Answer) → x ≡ planned job l ns ms → y ≡ planned job l ns ms → x ≡ y
@@ -36,3 +37,6 @@ settle-determined s at x y p q = determined p q
 
 pub alter-determined : (o : UvOptions) (h x y : InsetHexagon) → x ≡ alteredHexagon o h → y ≡ alteredHexagon o h → x ≡ y
 alter-determined o h x y p q = determined p q
+
+pub alter-plain-determined : (o : UvOptions) (h x y : Hexagon) → x ≡ alteredPlainHexagon o h → y ≡ alteredPlainHexagon o h → x ≡ y
+alter-plain-determined o h x y p q = determined p q

@@ -5,6 +5,7 @@ use mathlib.Core.List.{List, [], _∷_, map}
 use lib.ListN.{length}
 use lib.Ieee.{Float}
 use Rattle.face.specs.declared.vec.Vec2.{Vec2}
+use Rattle.face.specs.declared.face.Hexagon.{Hexagon}
 use Rattle.face.specs.declared.inset.InsetHexagon.{InsetHexagon}
 use Rattle.face.specs.declared.uv_mapping.UvOptions.{UvOptions}
 use Rattle.face.specs.Lists.{each}
@@ -20,11 +21,11 @@ use Rattle.placement.specs.declared.options.FaceOptions.{FaceOptions}
 use Rattle.placement.specs.declared.placement.Choice3.the-variants as choice
 use Rattle.placement.specs.declared.placement.Placement.{Placement}
 use Rattle.placement.specs.Options.{entryCount, isTable, optionAt}
-use Rattle.placement.specs.Placing.{moved, placedHexagon, placementInRange}
+use Rattle.placement.specs.Placing.{moved, placedHexagon, placedPlainHexagon, placementInRange}
 use Rattle.buffers.specs.Mesh.{Mesh}
 use Rattle.buffers.specs.Laying.{Buffers}
 use Rattle.buffers.specs.Faces.{hexagonMesh}
-use Rattle.mesh.specs.CheapColumn.{cornerFrom}
+use Rattle.mesh.specs.Stored.{cornerFrom}
 use Rattle.mesh.specs.Jobs.{plannedOf, wholeOf, oneOf, builtOf, facedOf}
 use Rattle.plane_builder.specs.declared.Plane.{Plane}
 
@@ -36,6 +37,9 @@ settled s at = record { scale = s .scale; turn = s .turn; offset = choice.With (
 abbrev pub alteredHexagon : UvOptions → InsetHexagon → InsetHexagon
 alteredHexagon o h = record { positions = h .positions; normal = h .normal; uvs = map (altered o) (h .uvs) }
 
+abbrev pub alteredPlainHexagon : UvOptions → Hexagon → Hexagon
+alteredPlainHexagon o h = record { positions = h .positions; normal = h .normal; uvs = map (altered o) (h .uvs) }
+
 abbrev pub cornersOf : List Float → List Vec2
 cornersOf l = each (cornerFrom l) 6
 
@@ -43,6 +47,10 @@ cornersOf l = each (cornerFrom l) 6
 abbrev pub hexagonBy : Plane → List Float → FaceOptions → InsetHexagon
 hexagonBy job l o =
     alteredHexagon (o .uv) (placedHexagon (settled (job .placement) (job .position)) (insetHexagonOf (o .inset) (hexagonOf (cornersOf l))))
+
+-- the same of a plane without an inset
+abbrev pub plainBy : Plane → List Float → FaceOptions → Hexagon
+plainBy job l o = alteredPlainHexagon (o .uv) (placedPlainHexagon (settled (job .placement) (job .position)) (hexagonOf (cornersOf l)))
 
 abbrev pub optionsOf : Plane → List Float → List ℕ → FaceOptions
 optionsOf job ns ms = optionAt ns ms (job .option)

@@ -2,14 +2,18 @@
 // its uvs altered last. A job of one face, whose number is 0.
 ghost use mathlib.Core.Path.{_≡_};
 ghost use mathlib.Core.Bool.{true};
-ghost use lib.ListN.{getD};
+ghost use Prim.Native.Nat.{_≤_};
+ghost use lib.ListN.{length, getD};
 ghost use lib.Ieee.{nan};
 ghost use Rattle.mesh.specs.Stored.{uvFrom};
 ghost use Rattle.buffers.specs.Mesh.{none, measure};
-ghost use Rattle.buffers.specs.Laying.{four, fits, layAll};
-ghost use Rattle.plane_builder.specs.Plane.{settled, alteredHexagon, cornersOf, hexagonBy, planeFaces, shapeOf, placeOf, rangeOf, planned, wholeAnswer, faceAnswer, built, faced};
+ghost use Rattle.buffers.specs.Laying.{four, fits, layAll, laidIfFits};
+ghost use Rattle.buffers.specs.Faces.{hexagonMesh, plainHexagonMesh};
+ghost use Rattle.plane_builder.specs.Plane.{settled, alteredHexagon, alteredPlainHexagon, cornersOf, hexagonBy, plainBy, planeFaces, shapeOf, placeOf, rangeOf, planned, wholeAnswer, faceAnswer, built, faced};
 use answer::answer::Answer;
 use answer::answer::Refusal;
+use face::face::Hexagon;
+use face::inset::Inset;
 use face::inset::InsetHexagon;
 use face::triangle::Counts;
 use face::triangle::IndexPlace;
@@ -51,9 +55,45 @@ pub fn pair_at(list: &[f32], at: u32) -> Vec2
     }
 }
 
+fn corners_within(corners: &[f32]) -> [Vec2; 6]
+    requires { ⌜ 12 ≤ length (now corners) ⌝ }
+    ensures { λ r. ⌜ r ≡ cornersOf (now (corners .entry)) ⌝ }
+{
+    [
+        Vec2 {
+            x: corners[0],
+            y: corners[1],
+        },
+        Vec2 {
+            x: corners[2],
+            y: corners[3],
+        },
+        Vec2 {
+            x: corners[4],
+            y: corners[5],
+        },
+        Vec2 {
+            x: corners[6],
+            y: corners[7],
+        },
+        Vec2 {
+            x: corners[8],
+            y: corners[9],
+        },
+        Vec2 {
+            x: corners[10],
+            y: corners[11],
+        },
+    ]
+}
+
+// One test of the length serves all twelve numbers; a shorter list is read number by number.
 pub fn corners_of(corners: &[f32]) -> [Vec2; 6]
     ensures { λ r. ⌜ r ≡ cornersOf (now (corners .entry)) ⌝ }
 {
+    if 12 <= corners.len() {
+        return corners_within(corners);
+    }
     [
         pair_at(corners, 0),
         pair_at(corners, 2),
@@ -104,6 +144,21 @@ pub fn alter(o: UvOptions, h: InsetHexagon) -> InsetHexagon
     }
 }
 
+// The same of a hexagon without an inset.
+pub fn alter_plain(o: UvOptions, h: Hexagon) -> Hexagon
+    ensures { λ r. ⌜ r ≡ alteredPlainHexagon o h ⌝ }
+{
+    let positions = h.positions;
+    let normal = h.normal;
+    let plain = h.uvs;
+    let uvs = face::uv_mapping::alter_six(o, plain);
+    Hexagon {
+        positions: positions,
+        normal: normal,
+        uvs: uvs,
+    }
+}
+
 fn hexagon_by(job: Plane, corners: &[f32], o: FaceOptions) -> InsetHexagon
     ensures { λ r. ⌜ r ≡ hexagonBy job (now (corners .entry)) o ⌝ }
 {
@@ -111,9 +166,19 @@ fn hexagon_by(job: Plane, corners: &[f32], o: FaceOptions) -> InsetHexagon
     let inset = o.inset;
     let uv = o.uv;
     let plain = face::face::new_hexagon(corners_of(corners));
-    let whole = face::inset::inset_hexagon(inset, plain);
+    let whole = insetting::inset_hexagon(inset, plain);
     let placed = placement::placement::place_hexagon(settle(s, job.position), whole);
     alter(uv, placed)
+}
+
+fn plain_by(job: Plane, corners: &[f32], o: FaceOptions) -> Hexagon
+    ensures { λ r. ⌜ r ≡ plainBy job (now (corners .entry)) o ⌝ }
+{
+    let s = job.placement;
+    let uv = o.uv;
+    let plain = face::face::new_hexagon(corners_of(corners));
+    let placed = placement::placement::place_plain_hexagon(settle(s, job.position), plain);
+    alter_plain(uv, placed)
 }
 
 fn is_shape(job: Plane, corners: &[f32], numbers: &[f32], marks: &[u8]) -> bool
@@ -148,6 +213,46 @@ fn is_in_range(job: Plane, corners: &[f32], numbers: &[f32]) -> bool
     false
 }
 
+// Without an inset a face has half the points, so it goes a way of its own.
+fn put_plain(
+    job: Plane,
+    corners: &[f32],
+    o: FaceOptions,
+    vertices: &mut [f32],
+    normals: &mut [f32],
+    uvs: &mut [f32],
+    indices: &mut [u16],
+)
+    ensures { λ _. ⌜ four (now (vertices .exit)) (now (normals .exit)) (now (uvs .exit)) (now (indices .exit)) ≡ laidIfFits (plainHexagonMesh (plainBy job (now (corners .entry)) o)) none (four (now (vertices .entry)) (now (normals .entry)) (now (uvs .entry)) (now (indices .entry))) ⌝ }
+{
+    let h = plain_by(job, corners, o);
+    let start = Counts {
+        vertices: VertexNumber(0),
+        indices: IndexPlace(0),
+    };
+    buffers::laying::lay_plain_hexagon(h, start, vertices, normals, uvs, indices);
+}
+
+fn put_inset(
+    job: Plane,
+    corners: &[f32],
+    o: FaceOptions,
+    vertices: &mut [f32],
+    normals: &mut [f32],
+    uvs: &mut [f32],
+    indices: &mut [u16],
+)
+    ensures { λ _. ⌜ four (now (vertices .exit)) (now (normals .exit)) (now (uvs .exit)) (now (indices .exit)) ≡ laidIfFits (hexagonMesh (o .inset) (hexagonBy job (now (corners .entry)) o)) none (four (now (vertices .entry)) (now (normals .entry)) (now (uvs .entry)) (now (indices .entry))) ⌝ }
+{
+    let inset = o.inset;
+    let h = hexagon_by(job, corners, o);
+    let start = Counts {
+        vertices: VertexNumber(0),
+        indices: IndexPlace(0),
+    };
+    buffers::laying::lay_hexagon(inset, h, start, vertices, normals, uvs, indices);
+}
+
 fn put(
     job: Plane,
     corners: &[f32],
@@ -163,12 +268,10 @@ fn put(
 {
     let o = placement::options::option_at(numbers, marks, job.option);
     let inset = o.inset;
-    let h = hexagon_by(job, corners, o);
-    let start = Counts {
-        vertices: VertexNumber(0),
-        indices: IndexPlace(0),
-    };
-    buffers::laying::lay_hexagon(inset, h, start, vertices, normals, uvs, indices);
+    match inset {
+        Inset::None => put_plain(job, corners, o, vertices, normals, uvs, indices),
+        _ => put_inset(job, corners, o, vertices, normals, uvs, indices),
+    }
 }
 
 // The counts of the job, or why it is refused.

@@ -8,6 +8,8 @@ corners-of-spec =
     tie.close
     (tie.spec
     (λ c κs. search needs)
+    (λ c. c .corners-within .ensures)
+    (λ c κs. search needs)
     (λ c κs. search needs)
     (λ c κs. search needs)
     (λ c κs. search needs)
