@@ -4,8 +4,9 @@ use Prim.Native.Nat.{ℕ}
 use Rattle.answer.specs.declared.answer.Answer.{Answer}
 use Rattle.answer.proofs.Determined.{determined}
 use Rattle.buffers.specs.Laying.{Buffers}
-use Rattle.column_builder.specs.declared.Column.{Column}
-use Rattle.column_builder.specs.Column.{Lists, planned, wholeAnswer, faceAnswer, built, faced}
+use Rattle.column.specs.declared.Column.{Column}
+use Rattle.column.specs.Column.{Lists, planned}
+use Rattle.column_builder.specs.Calls.{wholeAnswer, faceAnswer, built, faced}
 
 module _ (job : Column) (ls : Lists) where
   pub plan-determined : (x y : Answer) → x ≡ planned job ls → y ≡ planned job ls → x ≡ y

@@ -1,5 +1,4 @@
-pub mod Counts
 pub mod Determined
 pub mod Named
+pub mod Single
 pub mod Whole
-pub mod Numbering

@@ -4,17 +4,16 @@ use mathlib.Core.List.{List, [], _∷_, _++_, map, map-append}
 use Prim.Native.Nat.{ℕ, zero, suc}
 use lib.Ieee.{Float}
 use Rattle.face.specs.Lists.{each, chain}
-use Rattle.placement.specs.declared.options.FaceOptions.{FaceOptions}
 use Rattle.buffers.specs.Mesh.{Mesh}
 use Rattle.buffers.specs.Faces.{quadMesh, hexagonMesh}
-use Rattle.column_builder.specs.declared.Choice.{Choice}
-use Rattle.column_builder.specs.declared.Choice.the-variants as option
-use Rattle.column_builder.specs.declared.Column.{Column}
-use Rattle.column_builder.specs.declared.Name.the-variants.{OfSide, Top, Bottom}
-use Rattle.column_builder.specs.declared.wall.Wall.{Wall}
-use Rattle.column_builder.specs.Column.{lists, partsOf, sideAt, partNames, sideNames, optionFor, topHexagon, bottomHexagon, meshOf}
-use Rattle.column_builder.specs.Wall.{wallOf, partOf}
-use Rattle.column_builder.proofs.Counts.{map-each}
+use Rattle.column.specs.declared.Choice.{Choice}
+use Rattle.column.specs.declared.Choice.the-variants as option
+use Rattle.column.specs.declared.Column.{Column}
+use Rattle.column.specs.declared.Name.the-variants.{OfSide, Top, Bottom}
+use Rattle.column.specs.Column.{lists, partsOf, sideAt, partNames, sideNames, optionFor, topHexagon, bottomHexagon, meshOf}
+use Rattle.column.proofs.Counts.{map-each}
+use Rattle.column_faces.specs.declared.wall.Wall.{Wall}
+use Rattle.column_faces.specs.Wall.{wallOf, partOf}
 
 -- the p-th part of a wall
 abbrev pub partMesh : Wall → ℕ → Mesh

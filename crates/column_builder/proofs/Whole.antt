@@ -1,5 +1,5 @@
 -- The sides, the top and the bottom laid one after the other are all faces of the column. Assumes nothing.
-use mathlib.Core.Path.{_≡_, refl, sym, ap, ap₂, _∙_}
+use mathlib.Core.Path.{_≡_, refl, sym, ap, _∙_}
 use mathlib.Core.List.{List, [], _∷_, _++_, map, map-append, append-assoc}
 use mathlib.Core.Bool.{true}
 use Prim.Native.Nat.{ℕ, zero, suc, _<_}
@@ -20,11 +20,12 @@ use Rattle.buffers.specs.Windows.{Own, AllOwn}
 use Rattle.buffers.proofs.Windows.{none-also}
 use Rattle.buffers.proofs.Joined.{quad-own, hexagon-own}
 use Rattle.buffers.proofs.Each.{SoFar, so-far-more}
-use Rattle.column_builder.specs.declared.Column.{Column}
-use Rattle.column_builder.specs.declared.Name.{Name}
-use Rattle.column_builder.specs.declared.Name.the-variants.{OfSide, Top, Bottom}
-use Rattle.column_builder.specs.Column.{Lists, lists, partsOf, sideNames, capNames, columnNames, meshOf, columnFaces, sidesCounts, capCounts, shapeOf, rangeOf, checked, wholeAnswer}
-use Rattle.column_builder.proofs.Counts.{sides-sum, cap-sum, top-size}
+use Rattle.column.specs.declared.Column.{Column}
+use Rattle.column.specs.declared.Name.{Name}
+use Rattle.column.specs.declared.Name.the-variants.{OfSide, Top, Bottom}
+use Rattle.column.specs.Column.{Lists, lists, partsOf, sideNames, capNames, columnNames, meshOf, columnFaces, sidesCounts, capCounts, shapeOf, rangeOf, checked}
+use Rattle.column.proofs.Counts.{sides-sum, cap-sum, top-size}
+use Rattle.column_builder.specs.Calls.{wholeAnswer}
 use Rattle.column_builder.proofs.Named.{sides-alike}
 
 -- ---- what a done answer says: there is room for every face

@@ -1,120 +1,22 @@
-// A column, after column_builder.rs of hexx: six sides of parts one above the other, a top and a bottom.
-mod names;
-mod wall;
-
+// Columns built, after column_builder.rs of hexx: six sides of parts one above the other, a top and a bottom.
 ghost use mathlib.Core.Path.{_≡_};
 ghost use mathlib.Core.List.{[], map};
 ghost use Prim.Native.Nat.{_+_, _≤_, _<_, _^_};
-ghost use Rattle.answer.specs.Checks.{every};
-ghost use Rattle.face.specs.Lists.{chain};
+ghost use Rattle.face.specs.Lists.{each, chain};
 ghost use Rattle.buffers.specs.Mesh.{none, also};
 ghost use Rattle.buffers.specs.Laying.{four, laidIfFits, layEach};
-ghost use Rattle.column_builder.specs.Column.{partsOf, delta, choiceNames, allNamed, many, sideCounts, capCounts, sidesCounts, columnCounts, lists, sideAt, optionFor, capHexagon, topHexagon, bottomHexagon, meshOf, sideNames, capNames, columnFaces, wholeAnswer, faceAnswer, built, faced, shapeOf, placeOf, rangeOf, planned};
+ghost use Rattle.buffers.specs.Faces.{quadMesh};
+ghost use Rattle.column.specs.Column.{partsOf, sidesCounts, lists, meshOf, sideNames, capNames, columnFaces, planned};
+ghost use Rattle.column_faces.specs.Wall.{partOf};
+ghost use Rattle.column_builder.specs.Calls.{wholeAnswer, faceAnswer, built, faced};
 use answer::answer::Answer;
-use answer::answer::Refusal;
-use face::inset::InsetHexagon;
+use column::Choice;
+use column::Column;
+use column::Name;
+use column_faces::wall::Wall;
 use face::triangle::Counts;
 use face::triangle::IndexPlace;
 use face::triangle::VertexNumber;
-use face::vec::Vec2;
-use face::vec::Vec3;
-use placement::options::FaceOptions;
-use placement::placement::Choice3;
-use placement::placement::Placement;
-use placement::placement::Turn;
-
-pub enum Subdivisions {
-    Absent,
-    Of(u32),
-}
-
-// The number of an option, or that the face is not there.
-pub enum Choice {
-    Absent,
-    With(u8),
-}
-
-pub struct Side {
-    pub option: Choice,
-}
-
-// A face of a column: a part of a side, by the numbers of both, or a cap.
-pub enum Name {
-    OfSide(u8, u32),
-    Top,
-    Bottom,
-}
-
-pub struct Column {
-    pub height: f32,
-    pub subdivisions: Subdivisions,
-    pub sides: [Side; 6],
-    pub top: Choice,
-    pub bottom: Choice,
-    pub position: Vec2,
-    pub placement: Placement,
-}
-
-// How many parts a side has: at least one.
-pub(crate) fn parts_of(s: Subdivisions) -> u32
-    ensures { λ r. ⌜ r ≡ partsOf s ⌝ }
-{
-    match s {
-        Subdivisions::Absent => 1,
-        Subdivisions::Of(n) => {
-            if n == 0 {
-                return 1;
-            }
-            n
-        }
-    }
-}
-
-pub(crate) fn delta_of(job: Column) -> f32
-    ensures { λ r. ⌜ r ≡ delta job ⌝ }
-{
-    let s = job.subdivisions;
-    job.height / std::num::nearest_u32_to_f32(parts_of(s))
-}
-
-fn choice_names(c: Choice, entries: usize) -> bool
-    ensures { λ r. ⌜ r ≡ choiceNames c entries ⌝ }
-{
-    match c {
-        Choice::Absent => true,
-        Choice::With(k) => answer::check::names_option(k, entries),
-    }
-}
-
-fn all_sides_named(sides: [Side; 6], entries: usize) -> bool
-    ensures { λ r. ⌜ r ≡ every (λ x. choiceNames (x .option) entries) sides ⌝ }
-{
-    let mut d = 0;
-    while d < 6 {
-        let s = sides[d];
-        let o = s.option;
-        if choice_names(o, entries) {
-            d += 1;
-        } else {
-            return false;
-        }
-    }
-    true
-}
-
-fn all_named(job: Column, entries: usize) -> bool
-    ensures { λ r. ⌜ r ≡ allNamed job entries ⌝ }
-{
-    let sides = job.sides;
-    let top = job.top;
-    let bottom = job.bottom;
-    if all_sides_named(sides, entries) {
-        if choice_names(top, entries) {
-            return choice_names(bottom, entries);
-        }
-    }
-    false
-}
 
 fn zero() -> Counts
     ensures { λ r. ⌜ r ≡ none ⌝ }
@@ -135,190 +37,11 @@ pub(crate) fn add(a: Counts, b: Counts) -> Counts
     }
 }
 
-pub(crate) fn times(n: u32, c: Counts) -> Counts
-    requires { ⌜ (c .vertices .0 ≤ 8) × (c .indices .0 ≤ 32) ⌝ }
-    ensures product { λ r. ⌜ r ≡ many n c ⌝ }
-    ensures small { λ r. ⌜ (r .vertices .0 ≤ 137438953472) × (r .indices .0 ≤ 137438953472) ⌝ }
-{
-    let k = n as usize;
-    Counts {
-        vertices: VertexNumber(k * c.vertices.0),
-        indices: IndexPlace(k * c.indices.0),
-    }
-}
-
-fn side_counts(c: Choice, s: u32, numbers: &[f32], marks: &[u8]) -> Counts
-    ensures { λ r. ⌜ r ≡ sideCounts (now (numbers .entry)) (now (marks .entry)) s c ⌝ }
-{
-    match c {
-        Choice::Absent => zero(),
-        Choice::With(k) => {
-            let o = placement::options::option_at(numbers, marks, k);
-            let inset = o.inset;
-            times(s, face::triangle::quad_counts(inset))
-        }
-    }
-}
-
-pub(crate) fn cap_counts(c: Choice, numbers: &[f32], marks: &[u8]) -> Counts
-    ensures { λ r. ⌜ r ≡ capCounts (now (numbers .entry)) (now (marks .entry)) c ⌝ }
-{
-    match c {
-        Choice::Absent => zero(),
-        Choice::With(k) => {
-            let o = placement::options::option_at(numbers, marks, k);
-            let inset = o.inset;
-            face::triangle::hexagon_counts(inset)
-        }
-    }
-}
-
-// The option of a side; there is no seventh side.
-pub(crate) fn side_option(sides: [Side; 6], d: u8) -> Choice
-    ensures { λ r. ⌜ r ≡ sideAt sides d ⌝ }
-{
-    let i = d as usize;
-    if i < 6 {
-        let s = sides[i];
-        return s.option;
-    }
-    Choice::Absent
-}
-
-// The counts of the first n sides.
-pub(crate) fn sides_counts(sides: [Side; 6], n: u8, s: u32, numbers: &[f32], marks: &[u8]) -> Counts
-    ensures sum { λ r. ⌜ r ≡ sidesCounts (now (numbers .entry)) (now (marks .entry)) s sides n ⌝ }
-    ensures small { λ r. ⌜ (r .vertices .0 ≤ 35046933135360) × (r .indices .0 ≤ 35046933135360) ⌝ }
-{
-    let mut t = zero();
-    for d in 0u8..n {
-        let o = side_option(sides, d);
-        t = add(t, side_counts(o, s, numbers, marks));
-    }
-    t
-}
-
-fn column_counts(job: Column, numbers: &[f32], marks: &[u8]) -> Counts
-    ensures { λ r. ⌜ r ≡ columnCounts job (now (numbers .entry)) (now (marks .entry)) ⌝ }
-{
-    let sides = job.sides;
-    let top = job.top;
-    let bottom = job.bottom;
-    let s = job.subdivisions;
-    let walls = sides_counts(sides, 6, parts_of(s), numbers, marks);
-    let caps = add(
-        cap_counts(top, numbers, marks),
-        cap_counts(bottom, numbers, marks),
-    );
-    add(walls, caps)
-}
-
-fn is_shape(job: Column, pairs: &[f32], corners: &[f32], numbers: &[f32], marks: &[u8]) -> bool
-    ensures { λ r. ⌜ r ≡ shapeOf job (lists (now (pairs .entry)) (now (corners .entry)) (now (numbers .entry)) (now (marks .entry))) ⌝ }
-{
-    if answer::check::is_exactly(pairs.len(), 6, 4) {
-        if answer::check::is_exactly(corners.len(), 6, 2) {
-            if placement::options::is_table(numbers, marks) {
-                return all_named(job, placement::options::entries(marks));
-            }
-        }
-    }
-    false
-}
-
-fn is_place(job: Column) -> bool
-    ensures { λ r. ⌜ r ≡ placeOf job ⌝ }
-{
-    let s = job.placement;
-    if answer::check::in_range(job.height) {
-        if answer::check::in_range2(job.position) {
-            return placement::placement::placement_in_range(s);
-        }
-    }
-    false
-}
-
-fn is_in_range(job: Column, pairs: &[f32], corners: &[f32], numbers: &[f32]) -> bool
-    ensures { λ r. ⌜ r ≡ rangeOf job (lists (now (pairs .entry)) (now (corners .entry)) (now (numbers .entry)) []) ⌝ }
-{
-    if answer::check::all_in_range(pairs) {
-        if answer::check::all_in_range(corners) {
-            if answer::check::all_in_range(numbers) {
-                return is_place(job);
-            }
-        }
-    }
-    false
-}
-
-// The counts of the job, or why it is refused. The parts are not walked.
+// The counts of the job, or why it is refused.
 pub fn plan(job: Column, pairs: &[f32], corners: &[f32], numbers: &[f32], marks: &[u8]) -> Answer
     ensures { λ r. ⌜ r ≡ planned job (lists (now (pairs .entry)) (now (corners .entry)) (now (numbers .entry)) (now (marks .entry))) ⌝ }
 {
-    if is_shape(job, pairs, corners, numbers, marks) {
-        if is_in_range(job, pairs, corners, numbers) {
-            return answer::answer::limit(column_counts(job, numbers, marks));
-        }
-        return Answer::Refused(Refusal::Range);
-    }
-    Answer::Refused(Refusal::Shape)
-}
-
-// The option of a face; an absent one is never laid.
-pub(crate) fn option_for(c: Choice, numbers: &[f32], marks: &[u8]) -> FaceOptions
-    ensures { λ r. ⌜ r ≡ optionFor (now (numbers .entry)) (now (marks .entry)) c ⌝ }
-{
-    match c {
-        Choice::Absent => placement::options::option_at(numbers, marks, 255),
-        Choice::With(k) => placement::options::option_at(numbers, marks, k),
-    }
-}
-
-// A cap about (+0, +0), moved by a first offset of its own.
-fn cap_hexagon(corners: &[f32], o: FaceOptions, first: Vec3) -> InsetHexagon
-    ensures { λ r. ⌜ r ≡ capHexagon (lists [] (now (corners .entry)) [] []) o first ⌝ }
-{
-    let inset = o.inset;
-    let uv = o.uv;
-    let plain = face::face::new_hexagon(plane_builder::corners_of(corners));
-    let whole = face::inset::inset_hexagon(inset, plain);
-    let moving = Placement {
-        scale: Choice3::Absent,
-        turn: Turn::Absent,
-        offset: Choice3::With(first),
-    };
-    plane_builder::alter(uv, placement::placement::place_hexagon(moving, whole))
-}
-
-fn top_hexagon(job: Column, corners: &[f32], o: FaceOptions) -> InsetHexagon
-    ensures { λ r. ⌜ r ≡ topHexagon job (lists [] (now (corners .entry)) [] []) o ⌝ }
-{
-    let s = job.placement;
-    let up = Vec3 {
-        x: 0.0 * job.height,
-        y: job.height,
-        z: 0.0 * job.height,
-    };
-    let zero = Vec3 {
-        x: 0.0,
-        y: 0.0,
-        z: 0.0,
-    };
-    let cap = cap_hexagon(corners, o, face::vec::add3(zero, up));
-    placement::placement::place_hexagon(plane_builder::settle(s, job.position), cap)
-}
-
-fn bottom_hexagon(job: Column, corners: &[f32], o: FaceOptions) -> InsetHexagon
-    ensures { λ r. ⌜ r ≡ bottomHexagon job (lists [] (now (corners .entry)) [] []) o ⌝ }
-{
-    let s = job.placement;
-    let zero = Vec3 {
-        x: 0.0,
-        y: 0.0,
-        z: 0.0,
-    };
-    let cap = placement::placement::half_turn_hexagon(cap_hexagon(corners, o, zero));
-    placement::placement::place_hexagon(plane_builder::settle(s, job.position), cap)
+    column::plan(job, pairs, corners, numbers, marks)
 }
 
 // One face, laid at a place.
@@ -342,22 +65,40 @@ fn put_named(
     let bottom = job.bottom;
     match name {
         Name::OfSide(d, p) => {
-            let o = option_for(side_option(sides, d), numbers, marks);
-            let w = wall::wall_of(job, pairs, d, o);
-            wall::put_part(w, p, at, vertices, normals, uvs, indices);
+            let o = column::option_for(column::side_option(sides, d), numbers, marks);
+            let w = column_faces::wall::wall_of(job, pairs, d, o);
+            column_faces::wall::put_part(w, p, at, vertices, normals, uvs, indices);
         }
         Name::Top => {
-            let o = option_for(top, numbers, marks);
-            let inset = o.inset;
-            let h = top_hexagon(job, corners, o);
-            buffers::laying::lay_hexagon(inset, h, at, vertices, normals, uvs, indices);
+            let o = column::option_for(top, numbers, marks);
+            column_faces::caps::put_top(job, corners, o, at, vertices, normals, uvs, indices);
         }
         Name::Bottom => {
-            let o = option_for(bottom, numbers, marks);
-            let inset = o.inset;
-            let h = bottom_hexagon(job, corners, o);
-            buffers::laying::lay_hexagon(inset, h, at, vertices, normals, uvs, indices);
+            let o = column::option_for(bottom, numbers, marks);
+            column_faces::caps::put_bottom(job, corners, o, at, vertices, normals, uvs, indices);
         }
+    }
+}
+
+// All the parts, the lowest first.
+fn put_parts(
+    w: Wall,
+    parts: u32,
+    at: Counts,
+    vertices: &mut [f32],
+    normals: &mut [f32],
+    uvs: &mut [f32],
+    indices: &mut [u16],
+)
+    requires { ⌜ (at .vertices .0 ≤ 35046933135360) × (at .indices .0 ≤ 35046933135360) ⌝ }
+    ensures { λ _. ⌜ four (now (vertices .exit)) (now (normals .exit)) (now (uvs .exit)) (now (indices .exit)) ≡ layEach (each (λ p. quadMesh (w .inset) (partOf w p)) parts) at (four (now (vertices .entry)) (now (normals .entry)) (now (uvs .entry)) (now (indices .entry))) ⌝ }
+{
+    let inset = w.inset;
+    let size = face::triangle::quad_counts(inset);
+    let mut place = at;
+    for p in 0u32..parts {
+        column_faces::wall::put_part(w, p, place, vertices, normals, uvs, indices);
+        place = add(place, size);
     }
 }
 
@@ -379,13 +120,13 @@ fn put_side(
 {
     let sides = job.sides;
     let s = job.subdivisions;
-    let choice = side_option(sides, d);
+    let choice = column::side_option(sides, d);
     match choice {
         Choice::Absent => {}
         Choice::With(k) => {
             let o = placement::options::option_at(numbers, marks, k);
-            let w = wall::wall_of(job, pairs, d, o);
-            wall::put_parts(w, parts_of(s), at, vertices, normals, uvs, indices);
+            let w = column_faces::wall::wall_of(job, pairs, d, o);
+            put_parts(w, column::parts_of(s), at, vertices, normals, uvs, indices);
         }
     }
 }
@@ -407,7 +148,7 @@ fn put_sides(
 {
     let sides = job.sides;
     let s = job.subdivisions;
-    let parts = parts_of(s);
+    let parts = column::parts_of(s);
     let mut place = zero();
     for d in 0u8..6 {
         put_side(
@@ -422,8 +163,8 @@ fn put_sides(
             uvs,
             indices,
         );
-        let o = side_option(sides, d);
-        place = add(place, side_counts(o, parts, numbers, marks));
+        let o = column::side_option(sides, d);
+        place = add(place, column::side_counts(o, parts, numbers, marks));
     }
     place
 }
@@ -495,7 +236,7 @@ fn put_all(
         uvs,
         indices,
     );
-    let last = add(walls, cap_counts(top, numbers, marks));
+    let last = add(walls, column::cap_counts(top, numbers, marks));
     put_cap(
         job,
         bottom,
@@ -571,7 +312,7 @@ pub fn face(
         answer::answer::name(
             plan(job, pairs, corners, numbers, marks),
             number,
-            names::face_count(job),
+            column::names::face_count(job),
         ),
         vertices.len(),
         normals.len(),
@@ -581,8 +322,8 @@ pub fn face(
     match answer {
         Answer::Refused(why) => Answer::Refused(why),
         Answer::Done(counts) => {
-            let name = names::name_of(job, number);
-            let at = names::start_of(job, name, numbers, marks);
+            let name = column::names::name_of(job, number);
+            let at = column::names::start_of(job, name, numbers, marks);
             put_named(
                 job,
                 name,

@@ -1,10 +1,10 @@
 // The line of a column's job: the ends of its sides, the corners of its caps, height, subdivisions, the
 // options of sides, top and bottom, position, scale, turn, offset, how many options the table has, how
 // many faces there are, and the counts of the mesh.
-use column_builder::Choice;
-use column_builder::Column;
-use column_builder::Side;
-use column_builder::Subdivisions;
+use column::Choice;
+use column::Column;
+use column::Side;
+use column::Subdivisions;
 use face::vec::Vec2;
 use face::vec::Vec3;
 use placement::placement::Choice3;

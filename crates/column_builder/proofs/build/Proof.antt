@@ -1,12 +1,13 @@
 -- `build`: the plan, then the room, then every face. Assumes nothing.
 use borrow.Author.Needs.{needs}
-use mathlib.Core.Path.{sym, ap, _∙_}
+use mathlib.Core.Path.{sym, _∙_}
 use denote.Ref.{now}
 use Rattle.answer.proofs.Laws.{after-done, after-refused}
 use Rattle.buffers.specs.Mesh.{none}
 use Rattle.buffers.specs.Laying.{four, layAll}
 use Rattle.buffers.proofs.Each.{each-all}
-use Rattle.column_builder.specs.Column.{lists, columnFaces, wholeAnswer}
+use Rattle.column.specs.Column.{lists, columnFaces}
+use Rattle.column_builder.specs.Calls.{wholeAnswer}
 use Rattle.column_builder.proofs.Whole.{whole-ready}
 use Rattle.column_builder.proofs.build.Statement.{statement}
 use Rattle.column_builder.proofs.build.Tie as tie

@@ -1,14 +1,14 @@
 -- `put_all`: the sides, then the caps, each at the place past what lies before it. Assumes nothing.
 use borrow.Author.Needs.{needs}
-use mathlib.Core.Path.{_≡_, ap, _∙_}
+use mathlib.Core.Path.{ap, _∙_}
 use native.Mathlib.Omega.{arith}
 use denote.Ref.{now}
 use lib.ListN.{length}
 use Rattle.buffers.specs.Mesh.{none, also}
 use Rattle.buffers.specs.Laying.{Buffers, four}
 use Rattle.buffers.proofs.Each.{each-lengths}
-use Rattle.column_builder.specs.Column.{lists, columnFaces}
-use Rattle.column_builder.proofs.Counts.{cap-most}
+use Rattle.column.specs.Column.{lists, columnFaces}
+use Rattle.column.proofs.Counts.{cap-most}
 use Rattle.column_builder.proofs.Whole.{three-laid}
 use Rattle.column_builder.proofs.put_all.Statement.{statement}
 use Rattle.column_builder.proofs.put_all.Tie as tie

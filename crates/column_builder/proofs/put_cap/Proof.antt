@@ -5,8 +5,8 @@ use mathlib.Core.List.{map}
 use denote.Ref.{now}
 use Rattle.buffers.specs.Laying.{four, layEach}
 use Rattle.buffers.proofs.Each.{each-none, each-one}
-use Rattle.column_builder.specs.declared.Choice.{Choice}
-use Rattle.column_builder.specs.Column.{lists, meshOf, capNames}
+use Rattle.column.specs.declared.Choice.{Choice}
+use Rattle.column.specs.Column.{lists, meshOf, capNames}
 use Rattle.column_builder.proofs.put_cap.Statement.{statement}
 use Rattle.column_builder.proofs.put_cap.Tie as tie
 

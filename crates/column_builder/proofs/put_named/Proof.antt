@@ -1,17 +1,15 @@
 -- `put_named`: by the cases of the name. Assumes nothing.
 use borrow.Author.Needs.{needs}
-use mathlib.Core.Path.{sym, ap, ap₂, _∙_}
-use Rattle.face.specs.declared.inset.InsetHexagon.{InsetHexagon}
+use mathlib.Core.Path.{sym, ap, _∙_}
 use Rattle.buffers.specs.Faces.{hexagonMesh}
 use mathlib.Core.List.{[]}
 use Rattle.placement.specs.declared.options.FaceOptions.{FaceOptions}
 use denote.Ref.{now}
 use Rattle.buffers.specs.Mesh.{Mesh}
 use Rattle.buffers.specs.Laying.{four, laidIfFits}
-use Rattle.column_builder.specs.declared.Name.{Name}
-use Rattle.column_builder.specs.declared.wall.Wall.{Wall}
-use Rattle.column_builder.specs.Column.{lists, optionFor, topHexagon, bottomHexagon, meshOf}
-use Rattle.column_builder.specs.Wall.{wallOf}
+use Rattle.column.specs.Column.{lists, optionFor, topHexagon, bottomHexagon, meshOf}
+use Rattle.column_faces.specs.declared.wall.Wall.{Wall}
+use Rattle.column_faces.specs.Wall.{wallOf}
 use Rattle.column_builder.proofs.Named.{partMesh, part-is, top-is, bottom-is}
 use Rattle.column_builder.proofs.put_named.Statement.{statement}
 use Rattle.column_builder.proofs.put_named.Tie as tie
@@ -28,9 +26,7 @@ put-named-spec =
     (λ c. search needs)
     (λ c κs. search needs)
     (λ c κs. search needs)
-    (λ c κs. search needs)
     (λ c. search needs)
-    (λ c κs. search needs)
     (λ c κs. search needs)
     (λ c κs. search needs)
     (λ c. search needs)
@@ -49,18 +45,18 @@ put-named-spec =
     (λ c. search needs)
     (λ c. search needs)
     (λ c.
-    let a = c .before .before .before .before .before .before .before .before .before .before .before .before .before .before .before .before .before .before .before .before .before .before .before .before .before .before .args in
+    let a = c .before .before .before .before .before .before .before .before .before .before .before .before .before .before .before .before .before .before .before .before .before .before .before .before .before .args in
     let ls = lists (now (a .pairs)) (now (a .corners)) (now (a .numbers)) (now (a .marks)) in
-    c .before .before .before .before .before .before .before .before .lay-hexagon .ensures .1
-    ∙ ap₂ (λ (o : FaceOptions) (h : InsetHexagon). laidIfFits (hexagonMesh (o .inset) h) (a .at) (four (now (a .vertices)) (now (a .normals)) (now (a .uvs)) (now (a .indices)))) (c .before .before .before .before .before .before .before .before .before .before .before .before .before .before .option-for2 .ensures) (c .before .before .before .before .before .before .before .before .before .before .before .before .before .top-hexagon .ensures ∙ ap (topHexagon (a .job) (lists [] (now (a .corners)) [] [])) (c .before .before .before .before .before .before .before .before .before .before .before .before .before .before .option-for2 .ensures))
-    ∙ ap (λ (m : Mesh). laidIfFits m (a .at) (four (now (a .vertices)) (now (a .normals)) (now (a .uvs)) (now (a .indices)))) (top-is (a .job) (now (a .pairs)) (now (a .corners)) (now (a .numbers)) (now (a .marks)) ∙ ap (meshOf (a .job) ls) (sym (c .before .before .before .before .before .before .before .before .before .before .before .before .before .before .before .enum-told .given .1))))
+    c .before .before .before .before .before .before .before .before .put-top .ensures
+    ∙ ap (λ (o : FaceOptions). laidIfFits (hexagonMesh (o .inset) (topHexagon (a .job) (lists [] (now (a .corners)) [] []) o)) (a .at) (four (now (a .vertices)) (now (a .normals)) (now (a .uvs)) (now (a .indices)))) (c .before .before .before .before .before .before .before .before .before .before .before .before .before .option-for2 .ensures)
+    ∙ ap (λ (m : Mesh). laidIfFits m (a .at) (four (now (a .vertices)) (now (a .normals)) (now (a .uvs)) (now (a .indices)))) (top-is (a .job) (now (a .pairs)) (now (a .corners)) (now (a .numbers)) (now (a .marks)) ∙ ap (meshOf (a .job) ls) (sym (c .before .before .before .before .before .before .before .before .before .before .before .before .before .before .enum-told .given .1))))
     (λ c. search needs)
     (λ c. search needs)
     (λ c. search needs)
     (λ c. search needs)
     (λ c.
-    let a = c .before .before .before .before .before .before .before .before .before .before .before .before .before .before .before .before .before .before .before .before .before .before .before .before .before .before .args in
+    let a = c .before .before .before .before .before .before .before .before .before .before .before .before .before .before .before .before .before .before .before .before .before .before .before .before .before .args in
     let ls = lists (now (a .pairs)) (now (a .corners)) (now (a .numbers)) (now (a .marks)) in
-    c .before .before .before .before .before .before .before .before .lay-hexagon2 .ensures .1
-    ∙ ap₂ (λ (o : FaceOptions) (h : InsetHexagon). laidIfFits (hexagonMesh (o .inset) h) (a .at) (four (now (a .vertices)) (now (a .normals)) (now (a .uvs)) (now (a .indices)))) (c .before .before .before .before .before .before .before .before .before .before .before .before .before .before .option-for3 .ensures) (c .before .before .before .before .before .before .before .before .before .before .before .before .before .bottom-hexagon .ensures ∙ ap (bottomHexagon (a .job) (lists [] (now (a .corners)) [] [])) (c .before .before .before .before .before .before .before .before .before .before .before .before .before .before .option-for3 .ensures))
-    ∙ ap (λ (m : Mesh). laidIfFits m (a .at) (four (now (a .vertices)) (now (a .normals)) (now (a .uvs)) (now (a .indices)))) (bottom-is (a .job) (now (a .pairs)) (now (a .corners)) (now (a .numbers)) (now (a .marks)) ∙ ap (meshOf (a .job) ls) (sym (c .before .before .before .before .before .before .before .before .before .before .before .before .before .before .before .enum-told2 .given .1)))))
+    c .before .before .before .before .before .before .before .before .put-bottom .ensures
+    ∙ ap (λ (o : FaceOptions). laidIfFits (hexagonMesh (o .inset) (bottomHexagon (a .job) (lists [] (now (a .corners)) [] []) o)) (a .at) (four (now (a .vertices)) (now (a .normals)) (now (a .uvs)) (now (a .indices)))) (c .before .before .before .before .before .before .before .before .before .before .before .before .before .option-for3 .ensures)
+    ∙ ap (λ (m : Mesh). laidIfFits m (a .at) (four (now (a .vertices)) (now (a .normals)) (now (a .uvs)) (now (a .indices)))) (bottom-is (a .job) (now (a .pairs)) (now (a .corners)) (now (a .numbers)) (now (a .marks)) ∙ ap (meshOf (a .job) ls) (sym (c .before .before .before .before .before .before .before .before .before .before .before .before .before .before .enum-told2 .given .1)))))

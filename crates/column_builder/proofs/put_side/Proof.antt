@@ -4,15 +4,15 @@ use Prim.Native.Nat.{ℕ}
 use mathlib.Core.Path.{sym, ap, ap₂, _∙_}
 use Rattle.face.specs.Lists.{each}
 use Rattle.placement.specs.declared.options.FaceOptions.{FaceOptions}
-use Rattle.column_builder.specs.declared.wall.Wall.{Wall}
-use Rattle.column_builder.specs.Wall.{wallOf}
+use Rattle.column.specs.declared.Choice.{Choice}
+use Rattle.column.specs.Column.{lists, partsOf, partNames, meshOf}
+use Rattle.column_faces.specs.declared.wall.Wall.{Wall}
+use Rattle.column_faces.specs.Wall.{wallOf}
 use mathlib.Core.List.{List, [], map}
 use denote.Ref.{now}
 use Rattle.buffers.specs.Mesh.{Mesh}
 use Rattle.buffers.specs.Laying.{four, layEach}
 use Rattle.buffers.proofs.Each.{each-none}
-use Rattle.column_builder.specs.declared.Choice.{Choice}
-use Rattle.column_builder.specs.Column.{lists, partsOf, partNames, meshOf}
 use Rattle.column_builder.proofs.Named.{partMesh, parts-are}
 use Rattle.column_builder.proofs.put_side.Statement.{statement}
 use Rattle.column_builder.proofs.put_side.Tie as tie

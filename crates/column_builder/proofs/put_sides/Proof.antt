@@ -1,20 +1,19 @@
 -- `put_sides`: after d turns the first d sides are laid, and the place is past them. Assumes nothing.
 use borrow.Author.Needs.{needs}
 use Prim.Native.Nat.{ℕ, _-_, _≤_}
-use mathlib.Core.Path.{_≡_, refl, sym, ap, _∙_}
-use mathlib.Core.List.{List, [], _++_, map, map-append}
+use mathlib.Core.Path.{_≡_, sym, ap, _∙_}
+use mathlib.Core.List.{[], map, map-append}
 use native.Mathlib.Numerals.{add-one}
 use native.Mathlib.Omega.{arith}
 use denote.Ref.{now}
 use lib.ListN.{length}
-use Rattle.face.specs.declared.triangle.Counts.{Counts}
 use Rattle.face.specs.Lists.{chain}
-use Rattle.buffers.specs.Mesh.{Mesh, none, also, measure}
+use Rattle.buffers.specs.Mesh.{none, also, measure}
 use Rattle.buffers.specs.Laying.{Buffers, four, layEach}
 use Rattle.buffers.proofs.Windows.{none-also}
 use Rattle.buffers.proofs.Each.{SoFar, so-far-none, so-far-more, each-lengths}
-use Rattle.column_builder.specs.Column.{lists, partsOf, sideAt, sideNames, meshOf, sidesCounts}
-use Rattle.column_builder.proofs.Counts.{side-sum, sides-sum, side-most, sides-most}
+use Rattle.column.specs.Column.{lists, partsOf, sideAt, sideNames, meshOf, sidesCounts}
+use Rattle.column.proofs.Counts.{side-sum, sides-sum, side-most, sides-most}
 use Rattle.column_builder.proofs.put_sides.Statement.{statement}
 use Rattle.column_builder.proofs.put_sides.Tie as tie
 

@@ -1,0 +1,2 @@
+pub mod Determined
+mod Plain
