@@ -14,9 +14,9 @@ use Rattle.buffers.proofs.Faces.{quad-size, hexagon-size}
 use Rattle.face.proofs.Bench as face
 use Rattle.answer.specs.declared.answer.Answer.{Answer}
 use Rattle.answer.specs.Answers.{limited, numberOf, countsOf}
-use Rattle.column_builder.specs.declared.Column.{Column}
-use Rattle.column_builder.specs.Column.{columnCounts, checked}
-use Rattle.column_builder.proofs.Counts.{column-counts}
+use Rattle.column.specs.declared.Column.{Column}
+use Rattle.column.specs.Column.{columnCounts, checked}
+use Rattle.column.proofs.Counts.{column-counts}
 use Rattle.demands.specs.Job.{OfColumn, planned}
 use Rattle.demands.specs.Bench.{lent, Case, Plan, Summed, Quads, Hexagons, Connected, Rooted, Fused, Holds, All, bits, plans, insets, numbers, benchCases}
 

@@ -23,11 +23,11 @@ use Rattle.buffers.proofs.Windows.{none-also, one-inside, windows-apart, floats
 use Rattle.buffers.proofs.Joined.{own-vertices, all-is-joined, all-inside, all-outside}
 use Rattle.mesh.specs.Jobs.{plannedOf, wholeOf, oneOf, builtOf, facedOf, calls}
 use Rattle.mesh.proofs.Jobs.{RoomIn, plan-and-build, refused-plan, any-calls, only-its-places, no-places, face-answer, no-face-answer}
-use Rattle.mesh.specs.CheapColumn as cheap
-use Rattle.mesh.proofs.Cheap as cheapLaws
+use Rattle.cheap_column.specs.CheapColumn as cheap
+use Rattle.cheap_column.proofs.Cheap as cheapLaws
 use Rattle.plane_builder.specs.Plane as plane
 use Rattle.plane_builder.proofs.Laws as planeLaws
-use Rattle.column_builder.specs.Column as column
+use Rattle.column.specs.Column as column
 use Rattle.column_builder.proofs.Whole as columnLaws
 use Rattle.demands.specs.Job.{Job, OfCheapColumn, OfPlane, OfColumn, faces, planned, wholeAnswer, faceAnswer, built, faced, Call, Face, BuildOf, FaceOf, Other, called, AllRefused, Among}
 

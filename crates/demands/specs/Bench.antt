@@ -20,13 +20,13 @@ use Rattle.buffers.specs.Mesh.{sizeOf, measure}
 use Rattle.buffers.specs.Faces.{quadMesh, hexagonMesh}
 use Rattle.placement.specs.declared.placement.Choice3.the-variants as choice
 use Rattle.placement.specs.declared.placement.Turn.the-variants as turn
-use Rattle.column_builder.specs.declared.Subdivisions.{Subdivisions}
-use Rattle.column_builder.specs.declared.Subdivisions.the-variants as subdivisions
-use Rattle.column_builder.specs.declared.Choice.{Choice}
-use Rattle.column_builder.specs.declared.Choice.the-variants as option
-use Rattle.column_builder.specs.declared.Side.{Side}
-use Rattle.column_builder.specs.declared.Column.{Column}
-use Rattle.column_builder.specs.Column.{Lists, lists}
+use Rattle.column.specs.declared.Subdivisions.{Subdivisions}
+use Rattle.column.specs.declared.Subdivisions.the-variants as subdivisions
+use Rattle.column.specs.declared.Choice.{Choice}
+use Rattle.column.specs.declared.Choice.the-variants as option
+use Rattle.column.specs.declared.Side.{Side}
+use Rattle.column.specs.declared.Column.{Column}
+use Rattle.column.specs.Column.{Lists, lists}
 use Rattle.demands.specs.Job.{OfColumn, faces, planned}
 
 -- ---- plain columns of height 1 about zero

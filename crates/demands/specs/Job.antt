@@ -9,12 +9,13 @@ use Rattle.answer.specs.declared.answer.Answer.{Answer}
 use Rattle.answer.specs.declared.answer.Answer.the-variants.{Refused}
 use Rattle.buffers.specs.Mesh.{Mesh}
 use Rattle.buffers.specs.Laying.{Buffers}
-use Rattle.mesh.specs.declared.cheap_column.CheapColumn.{CheapColumn}
-use Rattle.mesh.specs.CheapColumn as cheap
+use Rattle.cheap_column.specs.declared.CheapColumn.{CheapColumn}
+use Rattle.cheap_column.specs.CheapColumn as cheap
 use Rattle.plane_builder.specs.declared.Plane.{Plane}
 use Rattle.plane_builder.specs.Plane as plane
-use Rattle.column_builder.specs.declared.Column.{Column}
-use Rattle.column_builder.specs.Column as column
+use Rattle.column.specs.declared.Column.{Column}
+use Rattle.column.specs.Column as column
+use Rattle.column_builder.specs.Calls as columnCalls
 
 -- a job with the lists that are lent to it
 pub data Job : Type 0 where
@@ -37,22 +38,22 @@ planned (OfColumn job ls) = column.planned job ls
 abbrev pub wholeAnswer : Job → Buffers → Answer
 wholeAnswer (OfCheapColumn job l) = cheap.wholeAnswer job l
 wholeAnswer (OfPlane job l ns ms) = plane.wholeAnswer job l ns ms
-wholeAnswer (OfColumn job ls) = column.wholeAnswer job ls
+wholeAnswer (OfColumn job ls) = columnCalls.wholeAnswer job ls
 
 abbrev pub faceAnswer : Job → ℕ → Buffers → Answer
 faceAnswer (OfCheapColumn job l) = cheap.faceAnswer job l
 faceAnswer (OfPlane job l ns ms) = plane.faceAnswer job l ns ms
-faceAnswer (OfColumn job ls) = column.faceAnswer job ls
+faceAnswer (OfColumn job ls) = columnCalls.faceAnswer job ls
 
 abbrev pub built : Job → Buffers → Buffers
 built (OfCheapColumn job l) = cheap.built job l
 built (OfPlane job l ns ms) = plane.built job l ns ms
-built (OfColumn job ls) = column.built job ls
+built (OfColumn job ls) = columnCalls.built job ls
 
 abbrev pub faced : Job → ℕ → Buffers → Buffers
 faced (OfCheapColumn job l) = cheap.faced job l
 faced (OfPlane job l ns ms) = plane.faced job l ns ms
-faced (OfColumn job ls) = column.faced job ls
+faced (OfColumn job ls) = columnCalls.faced job ls
 
 -- ---- X5: a run of calls on the same buffers, for a job
 pub data Call : Type 0 where

@@ -9,18 +9,19 @@ use Rattle.answer.proofs.Determined.{determined}
 use Rattle.answer.specs.declared.answer.Answer.{Answer}
 use Rattle.face.specs.Texture.{altered, wrapped}
 use Rattle.buffers.specs.Laying.{Buffers, four}
-use Rattle.mesh.specs.Merge.{mergeAnswer, merged}
+use Rattle.merge.specs.Merge.{mergeAnswer, merged}
 use Rattle.mesh.specs.Stored.{scaleAnswer, scaled, offsetAnswer, shifted, textureScaleAnswer, textureScaled, centroidOf, uvCentroidOf}
-use Rattle.mesh.specs.CheapColumn as cheap
+use Rattle.cheap_column.specs.CheapColumn as cheap
 use Rattle.plane_builder.specs.Plane as plane
-use Rattle.column_builder.specs.Column as column
+use Rattle.column.specs.Column as column
+use Rattle.column_builder.specs.Calls as columnCalls
 use Rattle.exports.specs.declared.given.CVec2.{CVec2}
 use Rattle.exports.specs.declared.given.CVec3.{CVec3}
 use Rattle.exports.specs.declared.given.CCounts.{CCounts}
 use Rattle.exports.specs.declared.told.CAnswer.{CAnswer}
 use Rattle.exports.specs.declared.plane.CPlane.{CPlane}
-use Rattle.exports.specs.declared.column.CColumn.{CColumn}
-use Rattle.exports.specs.declared.cheap_column.CCheapColumn.{CCheapColumn}
+use Rattle.exports.specs.declared.columns.CColumn.{CColumn}
+use Rattle.exports.specs.declared.cheap.CCheapColumn.{CCheapColumn}
 use Rattle.exports.specs.declared.stored.CCentroid.{CCentroid}
 use Rattle.exports.specs.declared.stored.CUvCentroid.{CUvCentroid}
 use Rattle.exports.specs.declared.texture.CUvOptions.{CUvOptions}
@@ -57,11 +58,11 @@ module _ (job : CColumn) (ls : column.Lists) where
   pub column-plan-determined : (x y : CAnswer) → x ≡ told (column.planned (columnOf job) ls) → y ≡ told (column.planned (columnOf job) ls) → x ≡ y
   column-plan-determined x y p q = determined p q
 
-  pub column-build-determined : (B : Buffers) (x y : CAnswer) (C D : Buffers) → x ≡ told (column.wholeAnswer (columnOf job) ls B) → y ≡ told (column.wholeAnswer (columnOf job) ls B) → C ≡ column.built (columnOf job) ls B → D ≡ column.built (columnOf job) ls B → (x ≡ y) × (C ≡ D)
-  column-build-determined B = both (column.wholeAnswer (columnOf job) ls B) (column.built (columnOf job) ls B)
+  pub column-build-determined : (B : Buffers) (x y : CAnswer) (C D : Buffers) → x ≡ told (columnCalls.wholeAnswer (columnOf job) ls B) → y ≡ told (columnCalls.wholeAnswer (columnOf job) ls B) → C ≡ columnCalls.built (columnOf job) ls B → D ≡ columnCalls.built (columnOf job) ls B → (x ≡ y) × (C ≡ D)
+  column-build-determined B = both (columnCalls.wholeAnswer (columnOf job) ls B) (columnCalls.built (columnOf job) ls B)
 
-  pub column-face-determined : (n : ℕ) (B : Buffers) (x y : CAnswer) (C D : Buffers) → x ≡ told (column.faceAnswer (columnOf job) ls n B) → y ≡ told (column.faceAnswer (columnOf job) ls n B) → C ≡ column.faced (columnOf job) ls n B → D ≡ column.faced (columnOf job) ls n B → (x ≡ y) × (C ≡ D)
-  column-face-determined n B = both (column.faceAnswer (columnOf job) ls n B) (column.faced (columnOf job) ls n B)
+  pub column-face-determined : (n : ℕ) (B : Buffers) (x y : CAnswer) (C D : Buffers) → x ≡ told (columnCalls.faceAnswer (columnOf job) ls n B) → y ≡ told (columnCalls.faceAnswer (columnOf job) ls n B) → C ≡ columnCalls.faced (columnOf job) ls n B → D ≡ columnCalls.faced (columnOf job) ls n B → (x ≡ y) × (C ≡ D)
+  column-face-determined n B = both (columnCalls.faceAnswer (columnOf job) ls n B) (columnCalls.faced (columnOf job) ls n B)
 
 module _ (job : CCheapColumn) (l : List Float) where
   pub cheap-column-plan-determined : (x y : CAnswer) → x ≡ told (cheap.planned (cheapColumnOf job) l) → y ≡ told (cheap.planned (cheapColumnOf job) l) → x ≡ y

@@ -15,14 +15,14 @@ use Rattle.placement.specs.declared.placement.Choice3.the-variants as choice3
 use Rattle.placement.specs.declared.placement.Turn.{Turn}
 use Rattle.placement.specs.declared.placement.Turn.the-variants as turn
 use Rattle.placement.specs.declared.placement.Placement.{Placement}
-use Rattle.mesh.specs.declared.cheap_column.CheapColumn.{CheapColumn}
+use Rattle.cheap_column.specs.declared.CheapColumn.{CheapColumn}
 use Rattle.plane_builder.specs.declared.Plane.{Plane}
-use Rattle.column_builder.specs.declared.Subdivisions.{Subdivisions}
-use Rattle.column_builder.specs.declared.Subdivisions.the-variants as subdivisions
-use Rattle.column_builder.specs.declared.Choice.{Choice}
-use Rattle.column_builder.specs.declared.Choice.the-variants as option
-use Rattle.column_builder.specs.declared.Side.{Side}
-use Rattle.column_builder.specs.declared.Column.{Column}
+use Rattle.column.specs.declared.Subdivisions.{Subdivisions}
+use Rattle.column.specs.declared.Subdivisions.the-variants as subdivisions
+use Rattle.column.specs.declared.Choice.{Choice}
+use Rattle.column.specs.declared.Choice.the-variants as option
+use Rattle.column.specs.declared.Side.{Side}
+use Rattle.column.specs.declared.Column.{Column}
 use Rattle.exports.specs.declared.given.CVec2.{CVec2}
 use Rattle.exports.specs.declared.given.CVec3.{CVec3}
 use Rattle.exports.specs.declared.given.CCounts.{CCounts}
@@ -30,10 +30,10 @@ use Rattle.exports.specs.declared.given.CChoice3.{CChoice3}
 use Rattle.exports.specs.declared.given.CTurn.{CTurn}
 use Rattle.exports.specs.declared.given.CPlacement.{CPlacement}
 use Rattle.exports.specs.declared.plane.CPlane.{CPlane}
-use Rattle.exports.specs.declared.column.CChoice.{CChoice}
-use Rattle.exports.specs.declared.column.CSubdivisions.{CSubdivisions}
-use Rattle.exports.specs.declared.column.CColumn.{CColumn}
-use Rattle.exports.specs.declared.cheap_column.CCheapColumn.{CCheapColumn}
+use Rattle.exports.specs.declared.columns.CChoice.{CChoice}
+use Rattle.exports.specs.declared.columns.CSubdivisions.{CSubdivisions}
+use Rattle.exports.specs.declared.columns.CColumn.{CColumn}
+use Rattle.exports.specs.declared.cheap.CCheapColumn.{CCheapColumn}
 use Rattle.exports.specs.declared.texture.CUvOptions.{CUvOptions}
 
 abbrev pub vec2Of : CVec2 → Vec2

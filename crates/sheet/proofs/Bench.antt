@@ -8,7 +8,7 @@ use lib.Ieee.{add, sub, mul, div, lt, le, neg, ofInt, ofBits, toBits, isNan}
 use Rattle.arith.specs.Fused.{fma}
 use Rattle.arith.specs.Root.{root}
 use Rattle.buffers.specs.Faces.{quadMesh, hexagonMesh}
-use Rattle.column_builder.specs.Column.{columnNames, meshOf}
+use Rattle.column.specs.Column.{columnNames, meshOf}
 use Rattle.mesh_text.specs.Digits.{digits, divisions, width}
 use Rattle.mesh_text.specs.Text.{bytes, floatLines, indexLines, meshText, refusalText}
 use Rattle.sheet_reading.specs.declared.Sheet.{Sheet}

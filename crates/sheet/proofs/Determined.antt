@@ -11,8 +11,8 @@ use Rattle.answer.specs.declared.answer.Answer.the-variants.{Done, Refused}
 use Rattle.answer.specs.Answers.{code}
 use Rattle.answer.proofs.Determined.{determined}
 use Rattle.buffers.specs.Mesh.{Mesh, joined}
-use Rattle.column_builder.specs.declared.Column.{Column}
-use Rattle.column_builder.specs.Column.{Lists, columnFaces, planned}
+use Rattle.column.specs.declared.Column.{Column}
+use Rattle.column.specs.Column.{Lists, columnFaces, planned}
 use Rattle.mesh_text.specs.Text.{refusalText}
 use Rattle.mesh_text.proofs.Laws.{mesh-some, refusal-some}
 use Rattle.sheet_reading.specs.Readers.{reading}

@@ -28,11 +28,12 @@ use Rattle.buffers.specs.Windows.{faceAt, Holds, SameLengths}
 use Rattle.buffers.proofs.Order.{lay-lengths}
 use Rattle.buffers.proofs.Joined.{all-is-joined, all-inside, joined-size, few-indices}
 use Rattle.mesh.specs.Jobs.{roomedIn}
-use Rattle.column_builder.specs.declared.Column.{Column}
-use Rattle.column_builder.specs.declared.Name.{Name}
-use Rattle.column_builder.specs.declared.Name.the-variants.{OfSide, Top, Bottom}
-use Rattle.column_builder.specs.Column.{Lists, lists, sideAt, columnNames, optionFor, columnFaces, meshOf, planned, wholeAnswer, built}
-use Rattle.column_builder.proofs.Counts.{part-size, top-size, bottom-size}
+use Rattle.column.specs.declared.Column.{Column}
+use Rattle.column.specs.declared.Name.{Name}
+use Rattle.column.specs.declared.Name.the-variants.{OfSide, Top, Bottom}
+use Rattle.column.specs.Column.{Lists, lists, sideAt, columnNames, optionFor, columnFaces, meshOf, planned}
+use Rattle.column_builder.specs.Calls.{wholeAnswer, built}
+use Rattle.column.proofs.Counts.{part-size, top-size, bottom-size}
 use Rattle.column_builder.proofs.Whole.{passes}
 use Rattle.mesh_text.specs.Text.{meshText, refusalText, isWhole, Written, MeshWritten}
 use Rattle.sheet_reading.specs.declared.Reading.{Reading}

@@ -18,12 +18,12 @@ use Rattle.placement.specs.declared.placement.Turn.the-variants as turn
 use Rattle.placement.specs.declared.placement.Placement.{Placement}
 use Rattle.buffers.specs.Mesh.{Mesh, joined}
 use Rattle.buffers.specs.Laying.{Buffers, four, three, two, corners, spread}
-use Rattle.column_builder.specs.declared.Subdivisions.the-variants as subdivisions
-use Rattle.column_builder.specs.declared.Choice.{Choice}
-use Rattle.column_builder.specs.declared.Choice.the-variants as option
-use Rattle.column_builder.specs.declared.Side.{Side}
-use Rattle.column_builder.specs.declared.Column.{Column}
-use Rattle.column_builder.specs.Column.{Lists, lists, columnFaces, planned}
+use Rattle.column.specs.declared.Subdivisions.the-variants as subdivisions
+use Rattle.column.specs.declared.Choice.{Choice}
+use Rattle.column.specs.declared.Choice.the-variants as option
+use Rattle.column.specs.declared.Side.{Side}
+use Rattle.column.specs.declared.Column.{Column}
+use Rattle.column.specs.Column.{Lists, lists, columnFaces, planned}
 use Rattle.mesh_text.specs.Text.{meshText, refusalText, Written}
 use Rattle.sheet_reading.specs.declared.Sheet.{Sheet}
 use Rattle.sheet_reading.specs.declared.Reading.{Reading}

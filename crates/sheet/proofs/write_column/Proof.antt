@@ -3,7 +3,7 @@ use borrow.Author.Needs.{needs}
 use mathlib.Core.Path.{sym, _∙_}
 use mathlib.Core.List.{[]}
 use denote.Ref.{now}
-use Rattle.column_builder.specs.Column.{lists}
+use Rattle.column.specs.Column.{lists}
 use Rattle.sheet.proofs.Telling.{blank, blank-roomy, told-refusal, told-mesh}
 use Rattle.sheet.proofs.write_column.Statement.{statement}
 use Rattle.sheet.proofs.write_column.Tie as tie
