@@ -1,3 +1,5 @@
+//! Two columns as one mesh. The README shows this program.
+
 use hosirekar::{Column, Counts, FaceOptions, InsetOptions, Job, Refusal};
 
 #[rustfmt::skip]

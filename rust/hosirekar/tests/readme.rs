@@ -1,5 +1,5 @@
-//! The program that the README shows is the example `column`, line by line but for the mark that
-//! keeps its lines as they are.
+//! The program that the README shows is the example `column`, line by line but for its first comment
+//! and the mark that keeps its lines as they are.
 
 const README: &str = include_str!("../../../README.md");
 const EXAMPLE: &str = include_str!("../examples/column.rs");
@@ -23,7 +23,8 @@ fn shown(first: &str) -> String {
 
 #[test]
 fn the_readme_shows_the_example() {
-    let program = EXAMPLE.replace("#[rustfmt::skip]\n", "");
+    let from = EXAMPLE.find("use ").unwrap_or_default();
+    let program = EXAMPLE[from..].replace("#[rustfmt::skip]\n", "");
     assert_eq!(shown("use hosirekar::"), program);
     assert!(program.lines().count() <= 15);
 }
