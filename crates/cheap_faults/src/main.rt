@@ -1,4 +1,4 @@
-// Calls `mesh` on cheap columns with every fault that can stand beside another, holds each answer and
+// Calls `cheap_column` with every fault that can stand beside another, holds each answer and
 // every place of the lent lists to what they should be, and writes how many differ.
 mod columns;
 

@@ -1,4 +1,4 @@
--- What the parts of a side share, so that it is worked out once a side. Definitions only.
+-- What the parts of a side share, so that it is worked out once a side; B3 and B5 are rows of docs/TRACE.md. Definitions only.
 use Prim.Native.Nat.{ℕ, _+_, _*_}
 use mathlib.Core.List.{[], _∷_, map}
 use Rattle.face.specs.declared.face.Quad.{Quad}
@@ -14,6 +14,7 @@ use Rattle.column.specs.declared.Column.{Column}
 use Rattle.column.specs.Column.{Lists, float, delta, partQuad}
 use Rattle.column_faces.specs.declared.wall.Wall.{Wall}
 
+-- B5: the uvs are altered before the inset; they and the normal are the same at every height
 abbrev pub wallOf : Column → Lists → FaceOptions → ℕ → Wall
 wallOf job ls o d =
     record {
@@ -26,7 +27,7 @@ wallOf job ls o d =
       placement = settled (job .placement) (job .position);
     }
 
--- one of the parts
+-- B3: one of the parts
 abbrev pub standing : Wall → ℕ → Quad
 standing w p =
     let foot = times (w .delta) (float p) in
@@ -37,6 +38,7 @@ standing w p =
       uvs = w .uvs;
     }
 
+-- inset, then placed
 abbrev pub partOf : Wall → ℕ → InsetQuad
 partOf w p = placedQuad (w .placement) (insetQuadOf (w .inset) (standing w p))
 

@@ -1,4 +1,4 @@
-// Faces by value: points, texture options, quads and hexagons, and their insets. Every function
+// Faces by value: points, texture options, quads and hexagons, and what an inset of them is. Every function
 // takes every number, infinities and NaNs too.
 pub mod face;
 pub mod inset;

@@ -1,5 +1,5 @@
-// Compares the faces of `face` with a record of hexx's own answers, bit by bit, and writes how many
-// differ.
+// Compares the faces of `face` and their insets with a record of hexx's own answers, bit by bit, and
+// writes how many differ.
 mod cells;
 mod faces;
 mod layout;

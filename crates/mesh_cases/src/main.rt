@@ -1,5 +1,5 @@
-// Compares what `mesh` makes with a record of hexx's own answers, bit by bit, and writes how many
-// differ.
+// Compares what `mesh`, `merge` and `cheap_column` make with a record of hexx's own answers, bit by bit,
+// and writes how many differ.
 mod cells;
 mod replay;
 mod report;

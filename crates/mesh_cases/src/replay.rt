@@ -1,4 +1,4 @@
-// What `mesh` makes of a line of each part, as the cells that the record should have for it and a mark:
+// What is made of a line of each part, as the cells that the record should have for it and a mark:
 // 0, or what is not as it should be of the answer, of the places past its counts, or of another call.
 use crate::cells;
 use crate::cells::CELLS;

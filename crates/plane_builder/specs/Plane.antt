@@ -37,6 +37,7 @@ settled s at = record { scale = s .scale; turn = s .turn; offset = choice.With (
 abbrev pub alteredHexagon : UvOptions → InsetHexagon → InsetHexagon
 alteredHexagon o h = record { positions = h .positions; normal = h .normal; uvs = map (altered o) (h .uvs) }
 
+-- the same of a face without an inset
 abbrev pub alteredPlainHexagon : UvOptions → Hexagon → Hexagon
 alteredPlainHexagon o h = record { positions = h .positions; normal = h .normal; uvs = map (altered o) (h .uvs) }
 
