@@ -3,9 +3,9 @@
 
 For each sixteenth of two octaves a cubic goes through the root at four Chebyshev points. It is
 written from the sixteenth's end: the root there, and by how much it falls towards the start, which
-lies 2^19 significands before. All is 2^7 times the root; slope and bend are 2^6 times finer still,
-and the change 2^17 times. The proof asks nothing of these numbers: they set how often the first
-guess is right.
+lies 2^19 significands before. All is 2^7 times the root, and the end has a half more, so that what is
+cut off rounds; slope and bend are 2^6 times finer still, and the change 2^17 times. The proof asks
+nothing of these numbers: they set how often the first guess is right.
 """
 from decimal import Decimal, getcontext
 
@@ -33,7 +33,7 @@ def row(odd, part):
     root = lambda u: (Decimal(end) - u * WIDTH).sqrt() * (Decimal(2) ** (23 + odd)).sqrt() * 128
     at_end, slope, bend, change = coefficients([root(u) for u in POINTS])
     whole = lambda x: int(x.to_integral_value())
-    return whole(at_end), whole(-slope * 2**6), whole(-bend * 2**6), whole(-change * 2**17)
+    return whole(at_end) + 64, whole(-slope * 2**6), whole(-bend * 2**6), whole(-change * 2**17)
 
 
 def show(name, pairs):

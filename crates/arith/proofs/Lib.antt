@@ -12,3 +12,5 @@ mod Jamming
 mod Combining
 mod Roots
 mod RootCases
+mod Twice
+mod ByDouble

@@ -2,12 +2,12 @@
 use mathlib.Core.Path.{_≡_, refl, sym, ap, ap₂, _∙_, subst}
 use mathlib.Core.Logic.{_⊎_, inl, inr}
 use Prim.Native.Nat.{ℕ, _+_, _-_, _*_, _/_, _%_, _^_, _≤_, _<_, compare, min}
-use native.Mathlib.Nat.{le-refl, le-trans, le-of-eq, lt-of-lt-of-le, lt-of-le-of-lt, not-le-of-lt, eq-or-lt-of-le, zero-mul, mul-one, mul-comm, mul-assoc, mul-le-mul-right, mul-div-cancel, add-assoc}
+use native.Mathlib.Nat.{le-refl, le-trans, le-of-eq, lt-of-lt-of-le, lt-of-le-of-lt, not-le-of-lt, eq-or-lt-of-le, zero-mul, mul-one, mul-comm, mul-assoc, mul-le-mul-right, mul-div-cancel, add-assoc, add-mul}
 use native.Mathlib.Omega.{arith}
 use mathlib.Core.Bool.{Bool, true, false, not, cond}
-use lib.Dec.{T, ltb, ltb→lt, nltb→le, lit<}
-use lib.Pow.{pow-pos, pow-add, pow-mono, shl-lt, shl-shr, shr-lt, shr-mono}
-use lib.Ieee.{Float, nan, inf, fin, binary32, up, down, size, odd, units, round, ofBits, toBits, fits, nanBits}
+use lib.Dec.{T, ltb, ltb→lt, nltb→le}
+use lib.Pow.{pow-pos, pow-add, pow-mono, pow-lt, shl-lt, shl-shr, shr-lt, shr-mono}
+use lib.Ieee.{Float, nan, inf, fin, Format, binary32, prec, low, hid, top, up, down, size, odd, units, round, ofBits, toBits, fits, nanBits}
 use lib.Ieee.Digits.{size-le}
 use lib.Ieee.Fits.{down-pos, round-fits, nearest-le}
 use lib.Ieee.Exact.{HasValue, units-val}
@@ -20,50 +20,53 @@ use Rattle.arith.proofs.Digits.{pow-lt-back, pow-le-back, size-shl, siz
 use Rattle.arith.proofs.Rounding.{dropped, round-pow}
 
 -- ---- the pattern of a finite value of n units
-written : (v : Float) (s : Bool) (n : ℕ) → HasValue v s n (2 ^ 149) → toBits binary32 v ≡ cond s (2 ^ 31) 0 + (size n - 24) * 2 ^ 23 + n / 2 ^ (size n - 24)
+pub written : (f : Format) (v : Float) (s : Bool) (n : ℕ) → HasValue v s n (2 ^ low f) → toBits f v ≡ cond s (top f) 0 + (size n - prec f) * hid f + n / 2 ^ (size n - prec f)
 unfolding toBits
-written nan s n h = absurd h
-written (inf t) s n h = absurd h
-written (fin t m e) s n h =
-    let q : m * up e * 2 ^ 149 / down e ≡ n = ap (λ (x : ℕ). x / down e) (h .1) ∙ mul-div-cancel n (down-pos e) in
-    ap₂ (λ (b : Bool) (x : ℕ). cond b (2 ^ 31) 0 + (size x - 24) * 2 ^ 23 + x / 2 ^ (size x - 24)) (h .0) q
+written f nan s n h = absurd h
+written f (inf t) s n h = absurd h
+written f (fin t m e) s n h =
+    let q : m * up e * 2 ^ low f / down e ≡ n = ap (λ (x : ℕ). x / down e) (h .1) ∙ mul-div-cancel n (down-pos e) in
+    ap₂ (λ (b : Bool) (x : ℕ). cond b (top f) 0 + (size x - prec f) * hid f + x / 2 ^ (size x - prec f)) (h .0) q
 
--- the two fields of q * 2 ^ k units
-abbrev Fields : ℕ → ℕ → Type 0
-Fields q k = (size (q * 2 ^ k) - 24) * 2 ^ 23 + q * 2 ^ k / 2 ^ (size (q * 2 ^ k) - 24) ≡ k * 2 ^ 23 + q
+-- the two fields of q * 2 ^ k units, where the digits' field has h places
+abbrev pub Fields : ℕ → ℕ → ℕ → Type 0
+Fields h q k = (size (q * 2 ^ k) - (h + 1)) * 2 ^ h + q * 2 ^ k / 2 ^ (size (q * 2 ^ k) - (h + 1)) ≡ k * 2 ^ h + q
 
-fields-at : (q k j : ℕ) → size (q * 2 ^ k) - 24 ≡ j → j * 2 ^ 23 + q * 2 ^ k / 2 ^ j ≡ k * 2 ^ 23 + q → Fields q k
-fields-at q k j e h = subst (λ (x : ℕ). x * 2 ^ 23 + q * 2 ^ k / 2 ^ x ≡ k * 2 ^ 23 + q) (sym e) h
+module _ (h q k : ℕ) where
+  fields-at : (j : ℕ) → size (q * 2 ^ k) - (h + 1) ≡ j → j * 2 ^ h + q * 2 ^ k / 2 ^ j ≡ k * 2 ^ h + q → Fields h q k
+  fields-at j e g = subst (λ (x : ℕ). x * 2 ^ h + q * 2 ^ k / 2 ^ x ≡ k * 2 ^ h + q) (sym e) g
 
-fields-normal : (q k : ℕ) → 2 ^ 23 ≤ q → q < 2 ^ 24 → Fields q k
-fields-normal q k h g =
-    let e : size (q * 2 ^ k) ≡ 24 + k = size-shl q 23 k h g in
-    fields-at q k k (omega arith) (ap (λ (x : ℕ). k * 2 ^ 23 + x) (shl-shr q k))
+  fields-normal : 2 ^ h ≤ q → q < 2 ^ (h + 1) → Fields h q k
+  fields-normal l g =
+      let e : size (q * 2 ^ k) ≡ h + 1 + k = size-shl q h k l g in
+      fields-at k (omega arith) (ap (λ (x : ℕ). k * 2 ^ h + x) (shl-shr q k))
 
-fields-carry : (q k : ℕ) → q ≡ 2 ^ 24 → Fields q k
-fields-carry q k e =
-    let z : size (q * 2 ^ k) ≡ 25 + k = ap (λ (x : ℕ). size (x * 2 ^ k)) e ∙ size-shl (2 ^ 24) 24 k (le-refl (2 ^ 24)) (lit< tt) in
-    let v : q * 2 ^ k ≡ 2 ^ 23 * 2 ^ (k + 1) =
-    ap (λ (x : ℕ). x * 2 ^ k) e ∙ mul-assoc (2 ^ 23) 2 (2 ^ k) ∙ ap (λ (x : ℕ). 2 ^ 23 * x) (mul-comm 2 (2 ^ k) ∙ sym (pow-add 2 k 1)) in
-    let d : q * 2 ^ k / 2 ^ (k + 1) ≡ 2 ^ 23 = ap (λ (x : ℕ). x / 2 ^ (k + 1)) v ∙ shl-shr (2 ^ 23) (k + 1) in
-    fields-at q k (k + 1) (omega arith) (omega arith)
+  fields-carry : q ≡ 2 ^ (h + 1) → Fields h q k
+  fields-carry e =
+      let p : 2 ^ (h + 1) ≡ 2 ^ h * 2 = pow-add 2 h 1 in
+      let z : size (q * 2 ^ k) ≡ h + 1 + 1 + k = ap (λ (x : ℕ). size (x * 2 ^ k)) e ∙ size-shl (2 ^ (h + 1)) (h + 1) k (le-refl (2 ^ (h + 1))) (pow-lt (let g : h + 1 < h + 1 + 1 = omega arith in g)) in
+      let v : q * 2 ^ k ≡ 2 ^ h * 2 ^ (k + 1) =
+      ap (λ (x : ℕ). x * 2 ^ k) (e ∙ p) ∙ mul-assoc (2 ^ h) 2 (2 ^ k) ∙ ap (λ (x : ℕ). 2 ^ h * x) (mul-comm 2 (2 ^ k) ∙ sym (pow-add 2 k 1)) in
+      let d : q * 2 ^ k / 2 ^ (k + 1) ≡ 2 ^ h = ap (λ (x : ℕ). x / 2 ^ (k + 1)) v ∙ shl-shr (2 ^ h) (k + 1) in
+      let m : (k + 1) * 2 ^ h ≡ k * 2 ^ h + 1 * 2 ^ h = add-mul k 1 (2 ^ h) in
+      fields-at (k + 1) (omega arith) (omega arith)
 
-fields-low : (q : ℕ) → q < 2 ^ 24 → Fields q 0
-fields-low q h =
+fields-low : (h q : ℕ) → q < 2 ^ (h + 1) → Fields h q 0
+fields-low h q l =
     let e : q * 2 ^ 0 ≡ q = mul-one q in
-    let z : size (q * 2 ^ 0) ≤ 24 = size-le (q * 2 ^ 0) 24 (subst (λ (x : ℕ). x < 2 ^ 24) (sym e) h) in
-    fields-at q 0 0 (omega arith) (ap (λ (x : ℕ). 0 * 2 ^ 23 + x) (shl-shr q 0))
+    let z : size (q * 2 ^ 0) ≤ h + 1 = size-le (q * 2 ^ 0) (h + 1) (subst (λ (x : ℕ). x < 2 ^ (h + 1)) (sym e) l) in
+    fields-at h q 0 0 (omega arith) (ap (λ (x : ℕ). 0 * 2 ^ h + x) (shl-shr q 0))
+
+pub fields : (h q k : ℕ) → q ≤ 2 ^ (h + 1) → (k ≡ 0) ⊎ (2 ^ h ≤ q) → Fields h q k
+fields h q k g c = go (eq-or-lt-of-le g) c
+  where
+    go : (q ≡ 2 ^ (h + 1)) ⊎ (q < 2 ^ (h + 1)) → (k ≡ 0) ⊎ (2 ^ h ≤ q) → Fields h q k
+    go (inl e) c = fields-carry h q k e
+    go (inr l) (inl z) = subst (λ (x : ℕ). Fields h q x) (sym z) (fields-low h q l)
+    go (inr l) (inr n) = fields-normal h q k n l
 
 -- ---- q * 2 ^ k units, as rounding leaves them: 24 digits, or a carry, or the least exponent
 module _ (q k : ℕ) (h : q ≤ 2 ^ 24) (c : (k ≡ 0) ⊎ (2 ^ 23 ≤ q)) where
-  fields : Fields q k
-  fields = go (eq-or-lt-of-le h) c
-    where
-      go : (q ≡ 2 ^ 24) ⊎ (q < 2 ^ 24) → (k ≡ 0) ⊎ (2 ^ 23 ≤ q) → Fields q k
-      go (inl e) c = fields-carry q k e
-      go (inr l) (inl z) = subst (λ (x : ℕ). Fields q x) (sym z) (fields-low q l)
-      go (inr l) (inr n) = fields-normal q k n l
-
   in-range : q * 2 ^ k < 2 ^ 277 → k * 2 ^ 23 + q < 255 * 2 ^ 23
   in-range g = go c (eq-or-lt-of-le h)
     where
@@ -112,9 +115,9 @@ packs s q k h c = go (ltb (q * 2 ^ k) (2 ^ 277)) (ltb→lt (q * 2 ^ k) (2 ^ 277)
   where
     go : (b : Bool) → (T b → q * 2 ^ k < 2 ^ 277) → (T (not b) → 2 ^ 277 ≤ q * 2 ^ k) → toBits binary32 (units binary32 s q k) ≡ packed s k q
     go true l g =
-        written (units binary32 s q k) s (q * 2 ^ k) (units-val binary32 s q k (l tt))
+        written binary32 (units binary32 s q k) s (q * 2 ^ k) (units-val binary32 s q k (l tt))
         ∙ add-assoc (cond s (2 ^ 31) 0) ((size (q * 2 ^ k) - 24) * 2 ^ 23) (q * 2 ^ k / 2 ^ (size (q * 2 ^ k) - 24))
-        ∙ ap (λ (x : ℕ). cond s (2 ^ 31) 0 + x) (fields q k h c ∙ sym (capped (k * 2 ^ 23 + q) (255 * 2 ^ 23) (in-range q k h c (l tt))))
+        ∙ ap (λ (x : ℕ). cond s (2 ^ 31) 0 + x) (fields 23 q k h c ∙ sym (capped (k * 2 ^ 23 + q) (255 * 2 ^ 23) (in-range q k h c (l tt))))
     go false l g =
         ap (λ (v : Float). toBits binary32 v) (inf-units s q k (g tt))
         ∙ inf-bits s

@@ -111,7 +111,7 @@ cmp-same b r c v h =
         cmp-gt ((b * c + suc r) * 2) (v * 2 * c) (omega arith) ∙ sym (cmp-gt (b * 2 + 1) (v * 2) (omega arith))
 
 -- ---- a number of leading digits a and a rest r below c, rounded to a multiple of v * 2 of those digits
-by-flag : (a r c v : ℕ) → r < c → 0 < v → closest (a * c + r) (v * 2 * c) ≡ nearest (a / (v * 2)) (compare (a % (v * 2) * 2 + flag r) (v * 2))
+pub by-flag : (a r c v : ℕ) → r < c → 0 < v → closest (a * c + r) (v * 2 * c) ≡ nearest (a / (v * 2)) (compare (a % (v * 2) * 2 + flag r) (v * 2))
 by-flag a r c v h vp =
     let n = a * c + r in
     let u = v * 2 * c in

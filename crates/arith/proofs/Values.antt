@@ -134,7 +134,7 @@ addend-cross p g l z a b h =
     let e : p * (a * b) * (l * l) ≡ p * l * (a * b * l) = simp (mul-assoc, mul-comm, mul-left-comm) in
     e ∙ ap (λ (u : ℕ). u * (a * b * l)) h ∙ simp (mul-assoc, mul-comm, mul-left-comm)
 
-fma-at : (x y z : Float) (s t u : Bool) (a b c l : ℕ) → 0 < l → HasValue x s a l → HasValue y t b l → HasValue z u c l
+pub fma-at : (x y z : Float) (s t u : Bool) (a b c l : ℕ) → 0 < l → HasValue x s a l → HasValue y t b l → HasValue z u c l
     → fma x y z ≡ sum binary32 (unlike s t) (a * b) u (c * l) (l * l)
 unfolding fma
 fma-at nan y z s t u a b c l L p q r = absurd p

@@ -2,9 +2,10 @@
 use mathlib.Core.Path.{_≡_}
 use mathlib.Core.Logic.{_⊎_}
 use mathlib.Core.Bool.{Bool, _&&_, Bool·beq, cond}
-use lib.Dec.{ltb}
+use lib.Dec.{ltb, leb}
+use lib.Ieee.Nearest.{closest}
 use Rattle.arith.specs.Pattern.{sigOf, expOf}
-use Prim.Native.Nat.{ℕ, zero, suc, _+_, _-_, _*_, _%_, _^_, _≤_, _<_, max}
+use Prim.Native.Nat.{ℕ, zero, suc, _+_, _-_, _*_, _/_, _%_, _^_, _≤_, _<_, max}
 
 -- sig * 2 ^ exp as m * 2 ^ e, the leading digit moved up to that of 2 ^ (63 - top)
 pub record Placed (sig exp top m e : ℕ) : Type 0 where
@@ -62,3 +63,20 @@ pub record Summed (sig exp : ℕ) : Type 0 where
 -- t, so that 24 stay, or w - e where that is more, so that none stays below the least number.
 abbrev pub shiftOf : ℕ → ℕ → ℕ → ℕ
 shiftOf t w e = max t (w - e)
+
+-- An `f64`'s pattern that tells which `f32` is nearest to whatever was rounded to it: its size is that of a normal `f32`, and it is no tie between two of them.
+pub record Narrows (bits : ℕ) : Type 0 where
+  pub least : 898 * 2 ^ 52 ≤ bits % 2 ^ 63
+  pub most : bits % 2 ^ 63 < 1150 * 2 ^ 52
+  pub untied : bits % 2 ^ 29 ≡ 2 ^ 28 → ⊥
+
+-- An `f64`'s pattern of such a size that a fused sum of three patterns loses nothing there: its last place is no higher than that of the product, and no higher than that of the addend.
+pub record Exact (x y z bits : ℕ) : Type 0 where
+  pub least : 898 * 2 ^ 52 ≤ bits % 2 ^ 63
+  pub most : bits % 2 ^ 63 < 1150 * 2 ^ 52
+  pub product : bits % 2 ^ 63 / 2 ^ 52 ≤ expOf (x % 2 ^ 31) + expOf (y % 2 ^ 31) + 777
+  pub addend : (z % 2 ^ 31 ≡ 0) ⊎ (bits % 2 ^ 63 / 2 ^ 52 ≤ expOf (z % 2 ^ 31) + 926)
+
+-- the pattern of the `f32` nearest to an `f64`'s: 29 digits fewer, and 896 taken from the exponent's field
+abbrev pub narrow : ℕ → ℕ
+narrow bits = cond (leb (2 ^ 63) bits) (2 ^ 31) 0 + (closest (bits % 2 ^ 63) (2 ^ 29) - 896 * 2 ^ 23)

@@ -1,6 +1,7 @@
 // The arithmetic that all else stands on: the square root and the fused multiply-add of `f32`, each
-// equal to its definition over whole numbers for every input. Whatever is rounded is rounded by
-// integers on bit patterns; only tests for NaN and infinity are made on the floats themselves.
+// equal to its definition over whole numbers for every input. Every `f32` is rounded by integers on
+// bit patterns; of the floats themselves there are tests for NaN and infinity, and a sum in `f64`.
+mod double;
 mod multiply_add;
 mod pattern;
 mod square_root;
@@ -30,16 +31,21 @@ pub fn root(x: f32) -> f32
     0.0 / 0.0
 }
 
-// a * b + c, rounded once.
+// a * b + c, rounded once: most often by way of `f64`, and else digit by digit.
 pub fn fused(a: f32, b: f32, c: f32) -> f32
     ensures { λ r. ⌜ r ≡ fma a b c ⌝ }
 {
-    if pattern::is_finite(a) && pattern::is_finite(b) {
-        if pattern::is_finite(c) {
-            return multiply_add::exact(a, b, c);
+    if double::no_nan(a, b, c) {
+        let s = (a as f64) * (b as f64) + (c as f64);
+        if s == s {
+            let bits = f64::to_bits(s);
+            if double::narrows(bits) {
+                return double::narrowed(bits);
+            }
+            if double::is_exact(a, b, c, bits) {
+                return double::rounded(bits);
+            }
         }
-        return c;
     }
-    // nothing is rounded here
-    a * b + c
+    multiply_add::by_digits(a, b, c)
 }

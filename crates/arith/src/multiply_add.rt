@@ -171,7 +171,7 @@ fn finish(r: Signed) -> f32
 }
 
 // a * b + c of three finite numbers.
-pub(crate) fn exact(a: f32, b: f32, c: f32) -> f32
+fn exact(a: f32, b: f32, c: f32) -> f32
     requires { ⌜ T (finite a) × T (finite b) × T (finite c) ⌝ }
     ensures { λ r. ⌜ r ≡ fma a b c ⌝ }
 {
@@ -180,4 +180,18 @@ pub(crate) fn exact(a: f32, b: f32, c: f32) -> f32
     let z = f32::to_bits(c);
     let s = crate::pattern::negative(x) != crate::pattern::negative(y);
     finish(combine(s, factors(x, y), crate::pattern::negative(z), addend(z)))
+}
+
+// a * b + c of any three numbers.
+pub(crate) fn by_digits(a: f32, b: f32, c: f32) -> f32
+    ensures { λ r. ⌜ r ≡ fma a b c ⌝ }
+{
+    if crate::pattern::is_finite(a) && crate::pattern::is_finite(b) {
+        if crate::pattern::is_finite(c) {
+            return exact(a, b, c);
+        }
+        return c;
+    }
+    // nothing is rounded here
+    a * b + c
 }

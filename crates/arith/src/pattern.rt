@@ -97,7 +97,7 @@ fn cap(m: u64) -> u32
     }
 }
 
-fn with_sign(neg: bool, m: u32) -> u32
+pub(crate) fn with_sign(neg: bool, m: u32) -> u32
     requires { ⌜ m < 2 ^ 31 ⌝ }
     ensures { λ r. ⌜ r ≡ cond neg (2 ^ 31) 0 + m ⌝ }
 {

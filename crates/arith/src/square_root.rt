@@ -1,48 +1,48 @@
 // The square root of a number above zero: the whole number nearest to the root of a significand.
 ghost use mathlib.Core.Path.{_≡_};
-ghost use Prim.Native.Nat.{_+_, _*_, _%_, _^_, _≤_, _<_};
+ghost use Prim.Native.Nat.{_+_, _-_, _*_, _%_, _^_, _≤_, _<_};
 ghost use Rattle.arith.specs.Root.{rootOf};
 ghost use Rattle.arith.specs.Pattern.{sigOf, expOf};
 ghost use Rattle.arith.specs.Parts.{WholeRoot, NearestRoot, Digits};
 use crate::pattern::Scaled;
 
 // Two octaves in sixteenths, and on each a cubic that falls back from its end: here 2 ^ 7 times the
-// root at the end, and the slope, 32 bits each. A `match` is read from one place in memory, where an
+// root at the end, with a half, and the slope, 32 bits each. A `match` is read from one place in memory, where an
 // array would be written to the frame at each call.
 fn end_and_slope(at: u64) -> u64 {
     match at {
-        0 => 0x41f83d9f_7c2dc448,
-        1 => 0x43e1db37_78ae141b,
-        2 => 0x45be0cd5_7576123e,
-        3 => 0x478dde71_727caabd,
-        4 => 0x49523ae6_6fba51de,
-        5 => 0x4b0bf167_6d28b2ec,
-        6 => 0x4cbbb9d7_6ac272aa,
-        7 => 0x4e623851_68830002,
-        8 => 0x50000001_66666f45,
-        9 => 0x5195957d_64695d3d,
-        10 => 0x532370ba_6288d832,
-        11 => 0x54a9fea8_60c24d89,
-        12 => 0x5629a293_5f137ad5,
-        13 => 0x57a2b749_5d7a61bf,
-        14 => 0x59159016_5bf53e07,
-        15 => 0x5a82799a_5a827d4b,
-        16 => 0x5d4b943d_af9d84ed,
-        17 => 0x60000005_aaaad32a,
-        18 => 0x62a17098_a61d80aa,
-        19 => 0x653160ef_a1e8b6dc,
-        20 => 0x67b11d2c_9e01c9df,
-        21 => 0x6a21ca52_9a5fc5af,
-        22 => 0x6c846c74_96fb1710,
-        23 => 0x6ed9eba3_93cd48ae,
-        24 => 0x71231802_90d0cf1c,
-        25 => 0x7360ad13_8e00dfeb,
-        26 => 0x75935479_8b595136,
-        27 => 0x77bba847_88d67f8e,
-        28 => 0x79da34e7_867538f3,
-        29 => 0x7bef7ac6_8432aba7,
-        30 => 0x7dfbefaf_820c5818,
-        _ => 0x80000001_80000539,
+        0 => 0x41f83ddf_7c2dc448,
+        1 => 0x43e1db77_78ae141b,
+        2 => 0x45be0d15_7576123e,
+        3 => 0x478ddeb1_727caabd,
+        4 => 0x49523b26_6fba51de,
+        5 => 0x4b0bf1a7_6d28b2ec,
+        6 => 0x4cbbba17_6ac272aa,
+        7 => 0x4e623891_68830002,
+        8 => 0x50000041_66666f45,
+        9 => 0x519595bd_64695d3d,
+        10 => 0x532370fa_6288d832,
+        11 => 0x54a9fee8_60c24d89,
+        12 => 0x5629a2d3_5f137ad5,
+        13 => 0x57a2b789_5d7a61bf,
+        14 => 0x59159056_5bf53e07,
+        15 => 0x5a8279da_5a827d4b,
+        16 => 0x5d4b947d_af9d84ed,
+        17 => 0x60000045_aaaad32a,
+        18 => 0x62a170d8_a61d80aa,
+        19 => 0x6531612f_a1e8b6dc,
+        20 => 0x67b11d6c_9e01c9df,
+        21 => 0x6a21ca92_9a5fc5af,
+        22 => 0x6c846cb4_96fb1710,
+        23 => 0x6ed9ebe3_93cd48ae,
+        24 => 0x71231842_90d0cf1c,
+        25 => 0x7360ad53_8e00dfeb,
+        26 => 0x759354b9_8b595136,
+        27 => 0x77bba887_88d67f8e,
+        28 => 0x79da3527_867538f3,
+        29 => 0x7bef7b06_8432aba7,
+        30 => 0x7dfbefef_820c5818,
+        _ => 0x80000041_80000539,
     }
 }
 
@@ -84,7 +84,7 @@ fn bends(at: u64) -> u64 {
     }
 }
 
-// A guess at the whole part of the root of m * 2 ^ (23 + odd), right for all but one m in a hundred.
+// A guess at the whole number nearest to the root of m * 2 ^ (23 + odd), right for all but one m in a hundred.
 // What the two tables hold sets the speed alone: the guess is tested.
 fn guess(m: u64, odd: u64) -> u64
     requires { ⌜ odd < 2 ⌝ }
@@ -124,16 +124,13 @@ fn raised(a: u64, r: u64) -> u64
     q
 }
 
-// The whole part of the root of a, from a guess.
-fn whole_root(a: u64, r: u64) -> u64
-    requires { ⌜ (a < 2 ^ 48) × (r ≤ 2 ^ 25) ⌝ }
-    ensures { λ q. ⌜ WholeRoot a q ⌝ }
+// The whole number nearest to the root of a, by steps from a guess that is off.
+fn stepped(a: u64, r: u64) -> u64
+    requires { ⌜ (0 < a) × (a ≤ 2 ^ 48 - 2 ^ 24) × (r ≤ 2 ^ 25) ⌝ }
+    ensures { λ q. ⌜ NearestRoot a q ⌝ }
 {
-    // a rest below zero wraps to a large one
-    if std::num::wrapping_sub_u64(a, r * r) <= 2 * r {
-        return r;
-    }
-    raised(a, lowered(a, r))
+    let q = raised(a, lowered(a, r));
+    if a - q * q > q { q + 1 } else { q }
 }
 
 // The whole number nearest to the root of m * 2 ^ (23 + odd). There is no tie.
@@ -142,8 +139,12 @@ fn nearest_root(m: u64, odd: u64) -> u64
     ensures { λ r. ⌜ NearestRoot (m * 2 ^ (23 + odd)) r ⌝ }
 {
     let a = m << (23 + odd);
-    let q = whole_root(a, guess(m, odd));
-    if a - q * q > q { q + 1 } else { q }
+    let r = guess(m, odd);
+    // one test for both sides: what is below zero wraps to a large number
+    if std::num::wrapping_sub_u64(a + r, r * r + 1) < 2 * r {
+        return r;
+    }
+    stepped(a, r)
 }
 
 // The root of m * 2 ^ e in units of 2 ^ -275, where m has 24 digits.
