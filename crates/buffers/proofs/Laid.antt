@@ -1,5 +1,5 @@
 -- One buffer with lists written into it, of any kind of element. No law asks for room. Assumes nothing.
-use mathlib.Core.Path.{_≡_, refl, sym, ap, _∙_}
+use mathlib.Core.Path.{_≡_, refl, sym, ap, ap₂, _∙_}
 use mathlib.Core.Logic.{_⊎_, inl, inr, ⊎-elim}
 use mathlib.Core.List.{List, [], _∷_, _++_, map, append-nil, append-assoc}
 use Prim.Native.Nat.{ℕ, zero, suc, _+_, _*_, _<_, _≤_}
@@ -131,6 +131,33 @@ module _ {A : Type 0} (g : ℕ → List A) where
 
   pub laying-done : (m : ℕ) (l : List A) (at k : ℕ) (now : List A) → Laying m l at k now → m ≤ k → now ≡ laid l at (chain g m)
   laying-done m l at k now y u = let e : k ≡ m = omega (arith, y .0) in y .2 ∙ rw e
+
+-- ---- the same in two windows, of which the second comes after the whole of the first
+module _ {A : Type 0} (g h : ℕ → List A) where
+  abbrev pub LayingTwo : ℕ → List A → ℕ → ℕ → ℕ → List A → Type 0
+  LayingTwo m l at at′ k now = (k ≤ m) × (length now ≡ length l) × (now ≡ laid (laid l at (chain g k)) at′ (chain h k))
+
+  pub laying-two-more : (n : ℕ) → ((k : ℕ) → length (g k) ≡ n) → ((k : ℕ) → length (h k) ≡ n) → (m : ℕ) (l : List A) (at at′ k : ℕ) (now mid next : List A)
+      → at + n * k + n ≤ at′ → LayingTwo m l at at′ k now → k < m → mid ≡ laid now (at + n * k) (g k) → next ≡ laid mid (at′ + n * k) (h k) → LayingTwo m l at at′ (k + 1) next
+  laying-two-more n p q m l at at′ k now mid next r y u d e =
+      let L : List A = laid l at (chain g k) in
+      let first : mid ≡ laid (laid l at (chain g k ++ g k)) at′ (chain h k) =
+      d
+      ∙ ap (λ (b : List A). laid b (at + n * k) (g k)) (y .2)
+      ∙ sym (laid-comm L (at + n * k) (g k) at′ (chain h k) (rw (p k) r))
+      ∙ ap (λ (x : ℕ). laid (laid L (at + x) (g k)) at′ (chain h k)) (sym (chain-length g n p k))
+      ∙ ap (λ (b : List A). laid b at′ (chain h k)) (laid-append l at (chain g k) (g k)) in
+      let second : next ≡ laid (laid l at (chain g k ++ g k)) at′ (chain h k ++ h k) =
+      e
+      ∙ ap₂ (λ (b : List A) (x : ℕ). laid b (at′ + x) (h k)) first (sym (chain-length h n q k))
+      ∙ laid-append (laid l at (chain g k ++ g k)) at′ (chain h k) (h k) in (
+        omega arith,
+        rw (e, d) (length-laid (laid now (at + n * k) (g k)) (at′ + n * k) (h k) ∙ length-laid now (at + n * k) (g k) ∙ y .1),
+        rw (add-one k) second,
+      )
+
+  pub laying-two-done : (m : ℕ) (l : List A) (at at′ k : ℕ) (now : List A) → LayingTwo m l at at′ k now → m ≤ k → now ≡ laid (laid l at (chain g m)) at′ (chain h m)
+  laying-two-done m l at at′ k now y u = let e : k ≡ m = omega (arith, y .0) in y .2 ∙ rw e
 
 -- ---- a loop that lays f of each element of a list, one a turn
 module _ {A B : Type 0} (f : B → A) (xs : List B) (z : B) where

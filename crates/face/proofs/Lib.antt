@@ -3,3 +3,4 @@ pub mod Laws
 pub mod Bench
 pub mod Filling
 mod Ring
+pub mod Wraps

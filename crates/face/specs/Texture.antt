@@ -5,7 +5,7 @@ use Rattle.arith.specs.Fused.{fma}
 use Rattle.face.specs.declared.vec.Vec2.{Vec2}
 use Rattle.face.specs.declared.uv_mapping.UvOptions.{UvOptions}
 use Rattle.face.specs.Lists.{pick}
-use Rattle.face.specs.Vec.{v2, f0, f1, f2, half, plus, minus, times, over, times2, length2, reciprocal, serves}
+use Rattle.face.specs.Vec.{v2, f0, f1, f2, half, plus, minus, times, over, times2, length2, alike, reciprocal, serves}
 
 -- what a fresh option does: scale 1, offset 0, the whole rectangle, no flip
 abbrev pub plain : UvOptions
@@ -24,8 +24,14 @@ altered o t =
 abbrev pub unitOr : Vec2 → Float → Vec2
 unitOr p k = pick (serves k) (times2 p k) p
 
--- T4: that, halved, about the middle of the texture
+-- halved, about the middle of the texture
+abbrev pub halved : Vec2 → Vec2
+halved q = v2 (plus (over (q .x) f2) half) (plus (over (q .y) f2) half)
+
+-- T4
 abbrev pub wrapped : Vec2 → Vec2
-wrapped p =
-    let q = unitOr p (reciprocal (length2 p)) in
-    v2 (plus (over (q .x) f2) half) (plus (over (q .y) f2) half)
+wrapped p = halved (unitOr p (reciprocal (length2 p)))
+
+-- the one reciprocal length of two points that are alike; else +0, which does not serve
+abbrev pub oneOfBoth : Vec2 → Vec2 → Float
+oneOfBoth p q = pick (alike p q) (reciprocal (length2 p)) f0

@@ -3,7 +3,8 @@ use mathlib.Core.List.{List, foldl}
 use mathlib.Core.Bool.{Bool, _&&_}
 use lib.ListN.{length}
 use lib.IntN.{pos}
-use lib.Ieee.{Float, nan, binary32, add, sub, mul, div, lt, ofBits, ofInt}
+use lib.Dec.{eqb}
+use lib.Ieee.{Float, nan, binary32, add, sub, mul, div, lt, le, eq, ofBits, toBits, ofInt}
 use Rattle.arith.specs.Root.{root}
 use Rattle.face.specs.declared.vec.Vec2.{Vec2}
 use Rattle.face.specs.declared.vec.Vec3.{Vec3}
@@ -100,12 +101,20 @@ length2 a = root (square2 a)
 abbrev pub length3 : Vec3 → Float
 length3 a = root (square3 a)
 
+-- two points whose squares have one pattern, and are no NaN
+abbrev pub alike : Vec2 → Vec2 → Bool
+alike a b = eq (square2 a) (square2 b) && eqb (toBits binary32 (square2 a)) (toBits binary32 (square2 b))
+
 -- the reciprocal of a length, and when it serves: finite and above 0
 abbrev pub reciprocal : Float → Float
 reciprocal l = over f1 l
 
 abbrev pub serves : Float → Bool
 serves k = lt f0 k && lt k top
+
+-- serving, and told so by a test that is quicker: speed alone hangs on it
+abbrev pub ordinary : Float → Bool
+ordinary k = lt f0 k && le k (ofBits binary32 0x4f80_0000)
 
 -- normalised: each component by the reciprocal of the length
 abbrev pub unit2 : Vec2 → Vec2

@@ -3,7 +3,7 @@ ghost use mathlib.Core.Path.{_≡_};
 ghost use mathlib.Core.List.{map};
 ghost use Rattle.arith.specs.Fused.{fma};
 ghost use Rattle.face.specs.Vec.{length2, reciprocal};
-ghost use Rattle.face.specs.Texture.{plain, component, altered, unitOr, wrapped};
+ghost use Rattle.face.specs.Texture.{plain, component, altered, unitOr, halved, wrapped, oneOfBoth};
 use crate::vec::Vec2;
 
 pub struct Flip {
@@ -65,6 +65,16 @@ pub fn alter_uv(o: UvOptions, uv: Vec2) -> Vec2
     }
 }
 
+// The same of the default options.
+pub fn alter_plain_uv(uv: Vec2) -> Vec2
+    ensures { λ r. ⌜ r ≡ altered plain uv ⌝ }
+{
+    Vec2 {
+        x: uv.x * 1.0 + 0.0 + 0.0,
+        y: uv.y * 1.0 + 0.0 + 0.0,
+    }
+}
+
 pub fn alter_four(o: UvOptions, uvs: [Vec2; 4]) -> [Vec2; 4]
     ensures { λ r. ⌜ r ≡ map (altered o) uvs ⌝ }
 {
@@ -120,30 +130,39 @@ fn one_of(p: Vec2) -> f32
     crate::vec::one_over(crate::vec::len2(p))
 }
 
-// The reciprocal length of p, where k is that of q: it is k if both squares are the same.
-fn one_again(p: Vec2, q: Vec2, k: f32) -> f32
-    requires { ⌜ k ≡ reciprocal (length2 q) ⌝ }
-    ensures { λ r. ⌜ r ≡ reciprocal (length2 p) ⌝ }
+// The reciprocal length of two corners, where their squares are the same, as those of opposite ones about the origin
+// are; else 0, which gives no direction.
+pub fn one_of_both(p: Vec2, q: Vec2) -> f32
+    ensures { λ r. ⌜ r ≡ oneOfBoth p q ⌝ }
 {
     let a = crate::vec::squared2(p);
     let b = crate::vec::squared2(q);
     if a == b {
         if f32::to_bits(a) == f32::to_bits(b) {
-            return k;
+            return crate::vec::one_over(arith::root(a));
         }
     }
-    crate::vec::one_over(arith::root(a))
+    0.0
+}
+
+// From about the origin to about the middle of the texture.
+pub fn halve(q: Vec2) -> Vec2
+    ensures { λ r. ⌜ r ≡ halved q ⌝ }
+{
+    Vec2 {
+        x: q.x / 2.0 + 0.5,
+        y: q.y / 2.0 + 0.5,
+    }
 }
 
 fn wrap_by(p: Vec2, k: f32) -> Vec2
     requires { ⌜ k ≡ reciprocal (length2 p) ⌝ }
     ensures { λ r. ⌜ r ≡ wrapped p ⌝ }
 {
-    let q = unit_or(p, k);
-    Vec2 {
-        x: q.x / 2.0 + 0.5,
-        y: q.y / 2.0 + 0.5,
+    if crate::vec::is_ordinary(k) {
+        return halve(crate::vec::scale2(p, k));
     }
+    halve(unit_or(p, k))
 }
 
 // A corner as a texture coordinate: its direction, moved into the unit square.
@@ -159,16 +178,20 @@ struct Across {
     far: Vec2,
 }
 
-// About the origin both have one length, and one root serves them.
+// About the origin one root serves both.
 fn wrap_across(p: Vec2, q: Vec2) -> Across
     ensures { λ r. ⌜ (r .near ≡ wrapped p) × (r .far ≡ wrapped q) ⌝ }
 {
-    let k = one_of(p);
-    let near = wrap_by(p, k);
-    let far = wrap_by(q, one_again(q, p, k));
+    let k = one_of_both(p, q);
+    if crate::vec::is_ordinary(k) {
+        return Across {
+            near: halve(crate::vec::scale2(p, k)),
+            far: halve(crate::vec::scale2(q, k)),
+        };
+    }
     Across {
-        near: near,
-        far: far,
+        near: wrap_uv(p),
+        far: wrap_uv(q),
     }
 }
 

@@ -1,7 +1,7 @@
 // Points of the plane and of space, by value. A point of the plane has x and y; on the panel its y
 // is the z of space.
 ghost use mathlib.Core.Path.{_≡_};
-ghost use Rattle.face.specs.Vec.{plus2, minus2, times2, plus3, minus3, times3, square2, square3, length2, length3, reciprocal, serves, unit2, unit3, middle2, middle3};
+ghost use Rattle.face.specs.Vec.{plus2, minus2, times2, plus3, minus3, times3, square2, square3, length2, length3, reciprocal, serves, ordinary, unit2, unit3, middle2, middle3};
 
 pub struct Vec2 {
     pub x: f32,
@@ -108,6 +108,16 @@ pub fn is_usable(k: f32) -> bool
 {
     if 0.0 < k {
         return k < f32::from_bits(0x7f80_0000);
+    }
+    false
+}
+
+// Whether a reciprocal length is one of those at hand: then it gives a direction.
+pub fn is_ordinary(k: f32) -> bool
+    ensures { λ r. ⌜ r ≡ ordinary k ⌝ }
+{
+    if 0.0 < k {
+        return k <= f32::from_bits(0x4f80_0000);
     }
     false
 }
