@@ -1,19 +1,18 @@
 -- The cheap column: its plan, and what laying its one face writes. Assumes nothing.
 use mathlib.Core.Path.{_≡_, refl, sym, ap, ap₂, _∙_}
 use mathlib.Core.Bool.{Bool, _&&_}
-use mathlib.Core.List.{List, map}
-use Prim.Native.Nat.{ℕ, _≤_}
+use mathlib.Core.List.{List, _++_}
+use Prim.Native.Nat.{ℕ, _+_, _*_, _<_, _≤_}
+use native.Mathlib.Nat.{zero-add, mul-suc, mul-le-mul, le-refl}
 use native.Mathlib.Omega.{arith}
 use borrow.Author.Tests.{eq-eqb, ne-eqb, eqb-true, ltb-true}
 use lib.Dec.{eqb, ltb}
 use lib.ListN.{length, getD}
 use lib.Ieee.{Float}
-use Rattle.face.specs.declared.vec.Vec2.{Vec2}
-use Rattle.face.specs.declared.vec.Vec3.{Vec3}
 use Rattle.face.specs.declared.triangle.Triangle.{Triangle}
 use Rattle.face.specs.declared.triangle.Counts.{Counts}
-use Rattle.face.specs.Lists.{each}
-use Rattle.face.specs.Vec.{f0, upright, minus3}
+use Rattle.face.specs.Lists.{each, chain}
+use Rattle.face.specs.Vec.{f0, upright}
 use Rattle.face.specs.Texture.{wrapped}
 use Rattle.face.specs.Triangles.{noTriangle, counts}
 use Rattle.answer.specs.declared.answer.Refusal.the-variants.{Shape, Range}
@@ -24,14 +23,14 @@ use Rattle.answer.specs.Checks.{exactly}
 use Rattle.answer.proofs.Laws.{Roomy, every-at, given-done, done-limited, named-done, roomed-done}
 use Rattle.buffers.specs.Mesh.{none, measure}
 use Rattle.buffers.specs.Laying.{Buffers, four, three, two, corners, spread, laid, lay, layAll, layOne}
-use Rattle.buffers.proofs.Laid.{laid-append}
+use Rattle.buffers.proofs.Laid.{laid-append, spread-append, spread-each, chain-length, LayingTwo, laying-two-more, laying-two-done}
 use Rattle.buffers.specs.Windows.{Own}
 use Rattle.buffers.proofs.Order.{same-four}
 use Rattle.buffers.proofs.Rooms.{both}
 use Rattle.buffers.proofs.Faces.{FewIndices}
 use Rattle.cheap_column.specs.declared.CheapColumn.{CheapColumn}
 use Rattle.mesh.specs.Stored.{cornerFrom}
-use Rattle.cheap_column.specs.CheapColumn.{cheapTriangles, cheapMesh, cheapFaces, rangeOf, checked, planned, wholeAnswer, faceAnswer}
+use Rattle.cheap_column.specs.CheapColumn.{outward, cheapTriangles, cheapMesh, cheapFaces, rangeOf, checked, planned, wholeAnswer, faceAnswer}
 
 -- ---- the plan
 module _ (job : CheapColumn) (l : List Float) where
@@ -44,43 +43,34 @@ module _ (job : CheapColumn) (l : List Float) where
   pub range-decides : length l ≡ 12 → (y : Bool) → rangeOf job l ≡ y → given y Range (limited (counts 12 48)) ≡ planned job l
   range-decides h y e = sym (ap₂ (λ (p q : Bool). given p Shape (given q Range (limited (measure (cheapFaces job l))))) (eq-eqb (length l) 12 h) e)
 
--- ---- what is laid: two rings of six in each list of floats, and the table
+-- ---- two rings of six, of which a turn lays one piece in each: the places of the foot come after all those of the top
+module _ {A : Type 0} (f : A → List Float) (n : ℕ) (top foot : ℕ → A) (l : List Float) where
+  abbrev pub Rings : ℕ → List Float → Type 0
+  Rings k now = LayingTwo (λ j. f (top j)) (λ j. f (foot j)) 6 l 0 (n * 6) k now
+
+  module _ (p : (x : A) → length (f x) ≡ n) where
+    pub rings-more : (k : ℕ) (now next : List Float) → Rings k now → k < 6 → next ≡ laid (laid now (n * k) (f (top k))) (n * 6 + n * k) (f (foot k)) → Rings (k + 1) next
+    rings-more k now next y u e =
+        let room : n * k + n ≤ n * 6 = rw (← mul-suc n k) (mul-le-mul (le-refl n) u) in
+        laying-two-more _ _ n (λ j. p (top j)) (λ j. p (foot j)) 6 l 0 (n * 6) k now (laid now (n * k) (f (top k))) next (rw zero-add room) y u (rw zero-add) e
+
+    pub rings-done : (k : ℕ) (now : List Float) → Rings k now → 6 ≤ k → now ≡ laid l 0 (spread f (each top 6 ++ each foot 6))
+    rings-done k now y u =
+        laying-two-done _ _ 6 l 0 (n * 6) k now y u
+        ∙ ap (λ (x : ℕ). laid (laid l 0 (chain (λ j. f (top j)) 6)) x (chain (λ j. f (foot j)) 6)) (sym (zero-add _ ∙ chain-length (λ j. f (top j)) n (λ j. p (top j)) 6))
+        ∙ laid-append l 0 (chain (λ j. f (top j)) 6) (chain (λ j. f (foot j)) 6)
+        ∙ ap (laid l 0) (sym (spread-append f (each top 6) (each foot 6) ∙ ap₂ _++_ (spread-each f top 6) (spread-each f foot 6)))
+
+-- ---- what is laid: two rings in each list of floats, and the table
 module _ (job : CheapColumn) (l : List Float) (B : Buffers) where
-  abbrev ring : Float → List Vec3
-  ring y = map (λ p. upright p y) (each (cornerFrom l) 6)
-
-  abbrev outwards : List Vec3
-  outwards = map (λ p. minus3 p (upright (job .centre) (job .height))) (ring (job .height))
-
-  abbrev wraps : List Vec2
-  wraps = map wrapped (each (cornerFrom l) 6)
-
-  rings-laid :
-      four
-      (laid (laid (B .vertices) 0 (spread three (ring (job .height)))) 18 (spread three (ring f0)))
-      (laid (laid (B .normals) 0 (spread three outwards)) 18 (spread three outwards))
-      (laid (laid (B .uvs) 0 (spread two wraps)) 12 (spread two wraps))
-      (laid (B .indices) 0 (spread (corners 0) cheapTriangles))
-      ≡ layAll (cheapFaces job l) none B
-  unfolding layAll lay
-  rings-laid =
-      same-four
-      (laid-append (B .vertices) 0 (spread three (ring (job .height))) (spread three (ring f0)))
-      (laid-append (B .normals) 0 (spread three outwards) (spread three outwards))
-      (laid-append (B .uvs) 0 (spread two wraps) (spread two wraps))
-      refl
-
-  -- each array is worked out once, and laid for the top and for the foot
-  pub column-laid : {cs ts : List Vec2} {tops feet ns : List Vec3} {middle : Vec3} {v v′ n n′ t t′ : List Float} {i : List ℕ}
-      → cs ≡ each (cornerFrom l) 6 → tops ≡ map (λ p. upright p (job .height)) cs → feet ≡ map (λ p. upright p f0) cs
-      → middle ≡ upright (job .centre) (job .height) → ns ≡ map (λ p. minus3 p middle) tops → ts ≡ map wrapped cs
-      → v ≡ laid (B .vertices) 0 (spread three tops) → v′ ≡ laid v 18 (spread three feet)
-      → n ≡ laid (B .normals) 0 (spread three ns) → n′ ≡ laid n 18 (spread three ns)
-      → t ≡ laid (B .uvs) 0 (spread two ts) → t′ ≡ laid t 12 (spread two ts)
+  pub column-laid : {v n t : List Float} {i : List ℕ}
+      → v ≡ laid (B .vertices) 0 (spread three (each (λ k. upright (cornerFrom l k) (job .height)) 6 ++ each (λ k. upright (cornerFrom l k) f0) 6))
+      → n ≡ laid (B .normals) 0 (spread three (each (λ k. outward job (cornerFrom l k)) 6 ++ each (λ k. outward job (cornerFrom l k)) 6))
+      → t ≡ laid (B .uvs) 0 (spread two (each (λ k. wrapped (cornerFrom l k)) 6 ++ each (λ k. wrapped (cornerFrom l k)) 6))
       → i ≡ laid (B .indices) 0 (spread (corners 0) cheapTriangles)
-      → four v′ n′ t′ i ≡ layAll (cheapFaces job l) none B
-  column-laid eC eT eF eM eN eU a b c d e f g =
-      same-four (rw (a, eT, eF, eC) at b) (rw (c, eN, eM, eT, eC) at d) (rw (e, eU, eC) at f) g ∙ rings-laid
+      → four v n t i ≡ layAll (cheapFaces job l) none B
+  unfolding layAll lay
+  column-laid a b c d = same-four a b c d
 
   -- the one face alone is the whole
   pub one-face : layOne (cheapFaces job l) 0 none B ≡ layAll (cheapFaces job l) none B

@@ -1,15 +1,16 @@
 // The cheap column, after `cheap_hexagonal_column` of hexx: a job of one face, whose vertices the
 // top and the sides share. It has no bottom.
 ghost use mathlib.Core.Path.{_≡_};
-ghost use mathlib.Core.List.{map};
-ghost use Prim.Native.Nat.{_+_, _≤_};
+ghost use mathlib.Core.List.{_++_};
+ghost use Prim.Native.Nat.{_+_, _*_, _≤_};
 ghost use lib.ListN.{length};
 ghost use Rattle.face.specs.Lists.{each};
-ghost use Rattle.face.specs.Vec.{upright, minus3};
+ghost use Rattle.face.specs.Vec.{f0, upright};
+ghost use Rattle.face.specs.Texture.{wrapped};
 ghost use Rattle.buffers.specs.Mesh.{none};
 ghost use Rattle.buffers.specs.Laying.{four, three, two, corners, spread, laid, layAll};
 ghost use Rattle.mesh.specs.Stored.{cornerFrom};
-ghost use Rattle.cheap_column.specs.CheapColumn.{rangeOf, cheapTriangles, cheapFaces, planned, wholeAnswer, faceAnswer, built, faced};
+ghost use Rattle.cheap_column.specs.CheapColumn.{outward, rangeOf, cheapTriangles, cheapFaces, planned, wholeAnswer, faceAnswer, built, faced};
 use answer::answer::Answer;
 use answer::answer::Refusal;
 use face::triangle::Counts;
@@ -86,17 +87,6 @@ fn corner_at(corners: &[f32], k: usize) -> Vec2
     }
 }
 
-fn corners_of(corners: &[f32]) -> [Vec2; 6]
-    requires { ⌜ length (now corners) ≡ 12 ⌝ }
-    ensures { λ r. ⌜ r ≡ each (cornerFrom (now (corners .entry))) 6 ⌝ }
-{
-    let mut out = [Vec2 { x: 0.0, y: 0.0 }; 6];
-    for k in 0usize..6 {
-        out[k] = corner_at(corners, k);
-    }
-    out
-}
-
 fn raise(p: Vec2, y: f32) -> Vec3
     ensures { λ r. ⌜ r ≡ upright p y ⌝ }
 {
@@ -105,31 +95,6 @@ fn raise(p: Vec2, y: f32) -> Vec3
         y: y,
         z: p.y,
     }
-}
-
-fn raise_six(cs: [Vec2; 6], y: f32) -> [Vec3; 6]
-    ensures { λ r. ⌜ r ≡ map (λ p. upright p y) cs ⌝ }
-{
-    let mut out = [Vec3 {
-        x: 0.0,
-        y: 0.0,
-        z: 0.0,
-    }; 6];
-    for k in 0usize..6 {
-        out[k] = raise(cs[k], y);
-    }
-    out
-}
-
-// From the middle of the top to each corner of it, as long as it is.
-fn normals_of(tops: [Vec3; 6], middle: Vec3) -> [Vec3; 6]
-    ensures { λ r. ⌜ r ≡ map (λ p. minus3 p middle) tops ⌝ }
-{
-    let mut out = tops;
-    for k in 0usize..6 {
-        out[k] = face::vec::sub3(tops[k], middle);
-    }
-    out
 }
 
 fn is_in_range(job: CheapColumn, corners: &[f32]) -> bool
@@ -160,22 +125,60 @@ fn put2(buffer: &mut [f32], at: usize, p: Vec2)
     buffer[at + 1] = p.y;
 }
 
-// A ring of six points, or of six normals.
-fn put_ring(buffer: &mut [f32], at: usize, ps: [Vec3; 6])
-    requires { ⌜ at + 18 ≤ length (now buffer) ⌝ }
-    ensures { λ _. ⌜ now (buffer .exit) ≡ laid (now (buffer .entry)) at (spread three ps) ⌝ }
+// A corner of the top and the one under it.
+fn put_point(height: f32, corners: &[f32], k: usize, vertices: &mut [f32])
+    requires { ⌜ (length (now corners) ≡ 12) × (k ≤ 5) × (36 ≤ length (now vertices)) ⌝ }
+    ensures { λ _. ⌜ now (vertices .exit) ≡ laid (laid (now (vertices .entry)) (3 * k) (three (upright (cornerFrom (now (corners .entry)) k) height))) (18 + 3 * k) (three (upright (cornerFrom (now (corners .entry)) k) f0)) ⌝ }
+{
+    let p = corner_at(corners, k);
+    put3(vertices, 3 * k, raise(p, height));
+    put3(vertices, 18 + 3 * k, raise(p, 0.0));
+}
+
+// From the middle of the top to a corner of it, as long as it is; the foot has the top's normals.
+fn put_normal(job: CheapColumn, corners: &[f32], k: usize, normals: &mut [f32])
+    requires { ⌜ (length (now corners) ≡ 12) × (k ≤ 5) × (36 ≤ length (now normals)) ⌝ }
+    ensures { λ _. ⌜ now (normals .exit) ≡ laid (laid (now (normals .entry)) (3 * k) (three (outward job (cornerFrom (now (corners .entry)) k)))) (18 + 3 * k) (three (outward job (cornerFrom (now (corners .entry)) k))) ⌝ }
+{
+    let p = raise(corner_at(corners, k), job.height);
+    let n = face::vec::sub3(p, raise(job.centre, job.height));
+    put3(normals, 3 * k, n);
+    put3(normals, 18 + 3 * k, n);
+}
+
+fn put_uv(corners: &[f32], k: usize, uvs: &mut [f32])
+    requires { ⌜ (length (now corners) ≡ 12) × (k ≤ 5) × (24 ≤ length (now uvs)) ⌝ }
+    ensures { λ _. ⌜ now (uvs .exit) ≡ laid (laid (now (uvs .entry)) (2 * k) (two (wrapped (cornerFrom (now (corners .entry)) k)))) (12 + 2 * k) (two (wrapped (cornerFrom (now (corners .entry)) k))) ⌝ }
+{
+    let t = face::uv_mapping::wrap_uv(corner_at(corners, k));
+    put2(uvs, 2 * k, t);
+    put2(uvs, 12 + 2 * k, t);
+}
+
+fn put_points(height: f32, corners: &[f32], vertices: &mut [f32])
+    requires { ⌜ (length (now corners) ≡ 12) × (36 ≤ length (now vertices)) ⌝ }
+    ensures { λ _. ⌜ now (vertices .exit) ≡ laid (now (vertices .entry)) 0 (spread three (each (λ k. upright (cornerFrom (now (corners .entry)) k) height) 6 ++ each (λ k. upright (cornerFrom (now (corners .entry)) k) f0) 6)) ⌝ }
 {
     for k in 0usize..6 {
-        put3(buffer, at + 3 * k, ps[k]);
+        put_point(height, corners, k, vertices);
     }
 }
 
-fn put_ring_uvs(buffer: &mut [f32], at: usize, ts: [Vec2; 6])
-    requires { ⌜ at + 12 ≤ length (now buffer) ⌝ }
-    ensures { λ _. ⌜ now (buffer .exit) ≡ laid (now (buffer .entry)) at (spread two ts) ⌝ }
+fn put_normals(job: CheapColumn, corners: &[f32], normals: &mut [f32])
+    requires { ⌜ (length (now corners) ≡ 12) × (36 ≤ length (now normals)) ⌝ }
+    ensures { λ _. ⌜ now (normals .exit) ≡ laid (now (normals .entry)) 0 (spread three (each (λ k. outward job (cornerFrom (now (corners .entry)) k)) 6 ++ each (λ k. outward job (cornerFrom (now (corners .entry)) k)) 6)) ⌝ }
 {
     for k in 0usize..6 {
-        put2(buffer, at + 2 * k, ts[k]);
+        put_normal(job, corners, k, normals);
+    }
+}
+
+fn put_uvs(corners: &[f32], uvs: &mut [f32])
+    requires { ⌜ (length (now corners) ≡ 12) × (24 ≤ length (now uvs)) ⌝ }
+    ensures { λ _. ⌜ now (uvs .exit) ≡ laid (now (uvs .entry)) 0 (spread two (each (λ k. wrapped (cornerFrom (now (corners .entry)) k)) 6 ++ each (λ k. wrapped (cornerFrom (now (corners .entry)) k)) 6)) ⌝ }
+{
+    for k in 0usize..6 {
+        put_uv(corners, k, uvs);
     }
 }
 
@@ -189,7 +192,7 @@ fn put_indices(buffer: &mut [u16])
     }
 }
 
-// The top and the foot share corners, normals and uvs, so each is worked out once and laid twice.
+// The top and the foot share corners, normals and uvs: a turn lays each in both of its places.
 fn put_column(
     job: CheapColumn,
     corners: &[f32],
@@ -201,18 +204,9 @@ fn put_column(
     requires { ⌜ (length (now corners) ≡ 12) × (36 ≤ length (now vertices)) × (36 ≤ length (now normals)) × (24 ≤ length (now uvs)) × (48 ≤ length (now indices)) ⌝ }
     ensures { λ _. ⌜ four (now (vertices .exit)) (now (normals .exit)) (now (uvs .exit)) (now (indices .exit)) ≡ layAll (cheapFaces job (now (corners .entry))) none (four (now (vertices .entry)) (now (normals .entry)) (now (uvs .entry)) (now (indices .entry))) ⌝ }
 {
-    let height = job.height;
-    let cs = corners_of(corners);
-    let tops = raise_six(cs, height);
-    let feet = raise_six(cs, 0.0);
-    let ns = normals_of(tops, raise(job.centre, height));
-    let ts = face::uv_mapping::wrap_six(cs);
-    put_ring(vertices, 0, tops);
-    put_ring(vertices, 18, feet);
-    put_ring(normals, 0, ns);
-    put_ring(normals, 18, ns);
-    put_ring_uvs(uvs, 0, ts);
-    put_ring_uvs(uvs, 12, ts);
+    put_points(job.height, corners, vertices);
+    put_normals(job, corners, normals);
+    put_uvs(corners, uvs);
     put_indices(indices);
 }
 

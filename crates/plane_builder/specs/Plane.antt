@@ -1,16 +1,18 @@
 -- A plane, a job of one face (plane_builder.rs); B5 to B22 are rows of docs/TRACE.md. Definitions only.
 use Prim.Native.Nat.{ℕ}
-use mathlib.Core.Bool.{Bool, _&&_}
+use mathlib.Core.Bool.{Bool, true, false, _&&_}
 use mathlib.Core.List.{List, [], _∷_, map}
+use lib.Dec.{eqb}
 use lib.ListN.{length}
 use lib.Ieee.{Float}
 use Rattle.face.specs.declared.vec.Vec2.{Vec2}
+use Rattle.face.specs.declared.vec.Vec3.{Vec3}
 use Rattle.face.specs.declared.face.Hexagon.{Hexagon}
 use Rattle.face.specs.declared.inset.InsetHexagon.{InsetHexagon}
 use Rattle.face.specs.declared.uv_mapping.UvOptions.{UvOptions}
 use Rattle.face.specs.Lists.{each}
-use Rattle.face.specs.Vec.{flat}
-use Rattle.face.specs.Texture.{altered}
+use Rattle.face.specs.Vec.{v3, f0, f1, flat}
+use Rattle.face.specs.Texture.{plain, altered}
 use Rattle.face.specs.Face.{hexagonOf}
 use Rattle.face.specs.Inset.{insetHexagonOf}
 use Rattle.answer.specs.declared.answer.Refusal.the-variants.{Shape, Range}
@@ -18,7 +20,10 @@ use Rattle.answer.specs.declared.answer.Answer.{Answer}
 use Rattle.answer.specs.Answers.{given}
 use Rattle.answer.specs.Checks.{inRange2, allInRange, exactly, namesOption}
 use Rattle.placement.specs.declared.options.FaceOptions.{FaceOptions}
+use Rattle.placement.specs.declared.placement.Choice3.{Choice3}
 use Rattle.placement.specs.declared.placement.Choice3.the-variants as choice
+use Rattle.placement.specs.declared.placement.Turn.{Turn}
+use Rattle.placement.specs.declared.placement.Turn.the-variants as turn
 use Rattle.placement.specs.declared.placement.Placement.{Placement}
 use Rattle.placement.specs.Options.{entryCount, isTable, optionAt}
 use Rattle.placement.specs.Placing.{moved, placedHexagon, placedPlainHexagon, placementInRange}
@@ -32,6 +37,10 @@ use Rattle.plane_builder.specs.declared.Plane.{Plane}
 -- B7, B19: the position, at height +0, is always added; a supplied offset joins it first
 abbrev pub settled : Placement → Vec2 → Placement
 settled s at = record { scale = s .scale; turn = s .turn; offset = choice.With (moved (s .offset) (flat at)) }
+
+-- the normal of a plane that lies
+abbrev pub level : Vec3
+level = v3 f0 f1 f0
 
 -- B5: uvs altered, those of the outer and of the inner points
 abbrev pub alteredHexagon : UvOptions → InsetHexagon → InsetHexagon
@@ -52,6 +61,19 @@ hexagonBy job l o =
 -- the same of a plane without an inset
 abbrev pub plainBy : Plane → List Float → FaceOptions → Hexagon
 plainBy job l o = alteredPlainHexagon (o .uv) (placedPlainHexagon (settled (job .placement) (job .position)) (hexagonOf (cornersOf l)))
+
+-- the same where the options are the default ones, and the plane is moved alone
+abbrev pub movedPlane : Vec3 → List Float → Hexagon
+movedPlane by l = alteredPlainHexagon plain (placedPlainHexagon (record { scale = choice.Absent; turn = turn.Absent; offset = choice.With by }) (hexagonOf (cornersOf l)))
+
+-- a plane that is so, by a test on which speed alone hangs
+abbrev pub movedAlone : Choice3 → Turn → Bool
+movedAlone choice.Absent turn.Absent = true
+movedAlone choice.Absent (turn.Rows a b c) = false
+movedAlone (choice.With s) t = false
+
+abbrev pub simple : Plane → List Float → Bool
+simple job l = eqb (job .option) 255 && (eqb (length l) 12 && movedAlone (job .placement .scale) (job .placement .turn))
 
 abbrev pub optionsOf : Plane → List Float → List ℕ → FaceOptions
 optionsOf job ns ms = optionAt ns ms (job .option)

@@ -1,15 +1,19 @@
 // A plane, after plane_builder.rs of hexx: one hexagon with its inset, scaled, turned and moved, and
 // its uvs altered last. A job of one face, whose number is 0.
+mod by_default;
+
 ghost use mathlib.Core.Path.{_≡_};
 ghost use mathlib.Core.Bool.{true};
 ghost use Prim.Native.Nat.{_≤_};
 ghost use lib.ListN.{length, getD};
 ghost use lib.Ieee.{nan};
+ghost use Rattle.face.specs.Vec.{flat};
+ghost use Rattle.placement.specs.Placing.{moved};
 ghost use Rattle.mesh.specs.Stored.{uvFrom};
 ghost use Rattle.buffers.specs.Mesh.{none, measure};
 ghost use Rattle.buffers.specs.Laying.{four, fits, layAll, laidIfFits};
 ghost use Rattle.buffers.specs.Faces.{hexagonMesh, plainHexagonMesh};
-ghost use Rattle.plane_builder.specs.Plane.{settled, alteredHexagon, alteredPlainHexagon, cornersOf, hexagonBy, plainBy, planeFaces, shapeOf, placeOf, rangeOf, planned, wholeAnswer, faceAnswer, built, faced};
+ghost use Rattle.plane_builder.specs.Plane.{movedAlone, simple, settled, alteredHexagon, alteredPlainHexagon, cornersOf, hexagonBy, plainBy, planeFaces, shapeOf, placeOf, rangeOf, planned, wholeAnswer, faceAnswer, built, faced};
 use answer::answer::Answer;
 use answer::answer::Refusal;
 use face::face::Hexagon;
@@ -104,13 +108,10 @@ pub fn corners_of(corners: &[f32]) -> [Vec2; 6]
     ]
 }
 
-// The placement of a whole mesh: the position is always added, so -0 there becomes +0.
-pub fn settle(s: Placement, at: Vec2) -> Placement
-    ensures { λ r. ⌜ r ≡ settled s at ⌝ }
+// The position, moved by the offset if there is one.
+fn join(offset: Choice3, at: Vec2) -> Vec3
+    ensures { λ r. ⌜ r ≡ moved offset (flat at) ⌝ }
 {
-    let scale = s.scale;
-    let turn = s.turn;
-    let offset = s.offset;
     let joining = Placement {
         scale: Choice3::Absent,
         turn: Turn::Absent,
@@ -121,7 +122,17 @@ pub fn settle(s: Placement, at: Vec2) -> Placement
         y: 0.0,
         z: at.y,
     };
-    let joined = placement::placement::place_point(joining, spot);
+    placement::placement::place_point(joining, spot)
+}
+
+// The placement of a whole mesh: the position is always added, so -0 there becomes +0.
+pub fn settle(s: Placement, at: Vec2) -> Placement
+    ensures { λ r. ⌜ r ≡ settled s at ⌝ }
+{
+    let scale = s.scale;
+    let turn = s.turn;
+    let offset = s.offset;
+    let joined = join(offset, at);
     Placement {
         scale: scale,
         turn: turn,
@@ -253,7 +264,8 @@ fn put_inset(
     buffers::laying::lay_hexagon(inset, h, start, vertices, normals, uvs, indices);
 }
 
-fn put(
+// By the way of its inset.
+fn put_any(
     job: Plane,
     corners: &[f32],
     numbers: &[f32],
@@ -272,6 +284,71 @@ fn put(
         Inset::None => put_plain(job, corners, o, vertices, normals, uvs, indices),
         _ => put_inset(job, corners, o, vertices, normals, uvs, indices),
     }
+}
+
+fn moves_alone(s: Placement) -> bool
+    ensures { λ r. ⌜ r ≡ movedAlone (s .scale) (s .turn) ⌝ }
+{
+    let scale = s.scale;
+    let turn = s.turn;
+    match scale {
+        Choice3::Absent => match turn {
+            Turn::Absent => true,
+            Turn::Rows(_, _, _) => false,
+        },
+        Choice3::With(_) => false,
+    }
+}
+
+// Whether the plane is one of those that go straight into the buffers.
+fn is_simple(job: Plane, corners: &[f32]) -> bool
+    ensures { λ r. ⌜ r ≡ simple job (now (corners .entry)) ⌝ }
+{
+    let s = job.placement;
+    if job.option == 255 {
+        if corners.len() == 12 {
+            return moves_alone(s);
+        }
+    }
+    false
+}
+
+fn put(
+    job: Plane,
+    corners: &[f32],
+    numbers: &[f32],
+    marks: &[u8],
+    vertices: &mut [f32],
+    normals: &mut [f32],
+    uvs: &mut [f32],
+    indices: &mut [u16],
+)
+    requires { ⌜ fits none (measure (planeFaces job (now corners) (now numbers) (now marks))) (four (now vertices) (now normals) (now uvs) (now indices)) ≡ true ⌝ }
+    ensures { λ _. ⌜ four (now (vertices .exit)) (now (normals .exit)) (now (uvs .exit)) (now (indices .exit)) ≡ layAll (planeFaces job (now (corners .entry)) (now (numbers .entry)) (now (marks .entry))) none (four (now (vertices .entry)) (now (normals .entry)) (now (uvs .entry)) (now (indices .entry))) ⌝ }
+{
+    if is_simple(job, corners) {
+        let s = job.placement;
+        let offset = s.offset;
+        crate::by_default::put_moved(
+            join(offset, job.position),
+            corners,
+            vertices,
+            normals,
+            uvs,
+            indices,
+        );
+        return;
+    }
+    put_any(
+        job,
+        corners,
+        numbers,
+        marks,
+        vertices,
+        normals,
+        uvs,
+        indices,
+    );
 }
 
 // The counts of the job, or why it is refused.

@@ -1,9 +1,10 @@
--- `put`: the face is laid, by the way of its inset, for there is room. Assumes nothing.
+-- `put`: straight into the buffers where the plane is simple, and else by the way of its inset. Assumes nothing.
 use borrow.Author.Needs.{needs}
-use mathlib.Core.Path.{_∙_}
+use native.Mathlib.Omega.{arith}
+use mathlib.Core.Path.{sym, _∙_}
 use denote.Ref.{now}
 use Rattle.buffers.specs.Laying.{four}
-use Rattle.plane_builder.proofs.Laws.{inset-laid, plain-laid}
+use Rattle.plane_builder.proofs.Laws.{simple-is, simple-room, simple-laid}
 use Rattle.plane_builder.proofs.put.Statement.{statement}
 use Rattle.plane_builder.proofs.put.Tie as tie
 
@@ -12,22 +13,25 @@ put-spec =
     tie.close
     (tie.spec
     (λ c κs. search needs)
-    (λ c. search needs)
     (λ c κs. search needs)
-    (λ c κs. search needs)
+    (λ c κs.
+    let a = c .before .before .before .before .before .before .before .before .before .before .before .before .before .before .before .args in
+    let B = four (now (a .vertices)) (now (a .normals)) (now (a .uvs)) (now (a .indices)) in
+    let h = sym (c .before .before .before .before .before .before .before .is-simple .ensures) ∙ c .before .before .before .before .before .before .if1 .taken in
+    let r = simple-room (a .job) (now (a .corners)) (now (a .numbers)) (now (a .marks)) h B (c .before .before .before .before .before .before .before .before .before .before .before .before .before .before .before .pre) in
+    (simple-is (a .job) (now (a .corners)) h .twelve, omega (arith, r .vertices), omega (arith, r .normals), omega (arith, r .uvs), omega (arith, r .indices)))
     (λ c. search needs)
     (λ c. search needs)
     (λ c. search needs)
     (λ c. search needs)
     (λ c.
-    let a = c .before .before .before .before .before .before .before .before .before .before .before .before .before .before .before .before .before .before .before .before .before .before .before .args in
-    c .before .before .before .before .before .before .before .before .put-plain .ensures
-    ∙ plain-laid (a .job) (now (a .corners)) (now (a .numbers)) (now (a .marks)) (four (now (a .vertices)) (now (a .normals)) (now (a .uvs)) (now (a .indices))) _ (c .before .before .before .before .before .before .before .before .before .before .before .before .before .before .before .option-at .ensures) (c .before .before .before .before .before .before .before .before .before .before .before .before .before .enum-told .given .1) (c .before .before .before .before .before .before .before .before .before .before .before .before .before .before .before .before .before .before .before .before .before .before .before .pre))
+    let a = c .before .before .before .before .before .before .before .before .before .before .before .before .before .before .before .before .before .before .before .before .before .before .before .before .args in
+    let B = four (now (a .vertices)) (now (a .normals)) (now (a .uvs)) (now (a .indices)) in
+    let h = sym (c .before .before .before .before .before .before .before .before .before .before .before .before .before .before .before .before .is-simple .ensures) ∙ c .before .before .before .before .before .before .before .before .before .before .before .before .before .before .before .if1 .taken in
+    c .before .before .before .before .before .before .before .before .put-moved .ensures ∙ simple-laid (a .job) (now (a .corners)) (now (a .numbers)) (now (a .marks)) h B _ (c .before .before .before .before .before .before .before .before .before .before .before .before .before .join .ensures))
+    (λ c κs. search needs)
     (λ c. search needs)
     (λ c. search needs)
     (λ c. search needs)
     (λ c. search needs)
-    (λ c.
-    let a = c .before .before .before .before .before .before .before .before .before .before .before .before .before .before .before .before .before .before .before .before .before .before .args in
-    c .before .before .before .before .before .before .before .before .put-inset .ensures
-    ∙ inset-laid (a .job) (now (a .corners)) (now (a .numbers)) (now (a .marks)) (four (now (a .vertices)) (now (a .normals)) (now (a .uvs)) (now (a .indices))) _ (c .before .before .before .before .before .before .before .before .before .before .before .before .before .before .option-at .ensures) (c .before .before .before .before .before .before .before .before .before .before .before .before .before .before .before .before .before .before .before .before .before .before .pre)))
+    (λ c. search needs))

@@ -8,4 +8,4 @@ settle-spec =
     tie.close
     (tie.spec
     (λ c κs. search needs)
-    (λ c. rw (c .place-point .ensures)))
+    (λ c. rw (c .join .ensures)))
