@@ -1,4 +1,3 @@
 pub mod Determined
-pub mod Named
 pub mod Single
 pub mod Whole

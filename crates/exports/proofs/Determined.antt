@@ -15,18 +15,18 @@ use Rattle.cheap_column.specs.CheapColumn as cheap
 use Rattle.plane_builder.specs.Plane as plane
 use Rattle.column.specs.Column as column
 use Rattle.column_builder.specs.Calls as columnCalls
-use Rattle.exports.specs.declared.given.CVec2.{CVec2}
-use Rattle.exports.specs.declared.given.CVec3.{CVec3}
-use Rattle.exports.specs.declared.given.CCounts.{CCounts}
-use Rattle.exports.specs.declared.told.CAnswer.{CAnswer}
-use Rattle.exports.specs.declared.plane.CPlane.{CPlane}
-use Rattle.exports.specs.declared.columns.CColumn.{CColumn}
-use Rattle.exports.specs.declared.cheap.CCheapColumn.{CCheapColumn}
-use Rattle.exports.specs.declared.stored.CCentroid.{CCentroid}
-use Rattle.exports.specs.declared.stored.CUvCentroid.{CUvCentroid}
-use Rattle.exports.specs.declared.texture.CUvOptions.{CUvOptions}
-use Rattle.exports.specs.Given.{vec2Of, vec3Of, countsIn, planeOf, columnOf, cheapColumnOf, uvOptionsOf}
-use Rattle.exports.specs.Told.{told, told2, toldCentroid, toldUvCentroid}
+use Rattle.boundary.specs.declared.given.CVec2.{CVec2}
+use Rattle.boundary.specs.declared.given.CVec3.{CVec3}
+use Rattle.boundary.specs.declared.given.CCounts.{CCounts}
+use Rattle.boundary.specs.declared.told.CAnswer.{CAnswer}
+use Rattle.boundary.specs.declared.jobs.CPlane.{CPlane}
+use Rattle.boundary.specs.declared.jobs.CColumn.{CColumn}
+use Rattle.boundary.specs.declared.jobs.CCheapColumn.{CCheapColumn}
+use Rattle.boundary.specs.declared.told.CCentroid.{CCentroid}
+use Rattle.boundary.specs.declared.told.CUvCentroid.{CUvCentroid}
+use Rattle.boundary.specs.declared.given.CUvOptions.{CUvOptions}
+use Rattle.boundary.specs.Given.{vec2Of, vec3Of, countsIn, planeOf, columnOf, cheapColumnOf, uvOptionsOf}
+use Rattle.boundary.specs.Told.{told, told2, toldCentroid, toldUvCentroid}
 
 -- an answer that is told, and four buffers
 both : (a : Answer) (B : Buffers) (x y : CAnswer) (C D : Buffers) → x ≡ told a → y ≡ told a → C ≡ B → D ≡ B → (x ≡ y) × (C ≡ D)

@@ -1,3 +1,2 @@
 mod Carried
-pub mod Laws
 pub mod Determined

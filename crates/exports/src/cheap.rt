@@ -2,34 +2,17 @@
 ghost use mathlib.Core.Path.{_≡_};
 ghost use Rattle.buffers.specs.Laying.{four};
 ghost use Rattle.cheap_column.specs.CheapColumn.{planned, wholeAnswer, faceAnswer, built, faced};
-ghost use Rattle.exports.specs.Given.{cheapColumnOf};
-ghost use Rattle.exports.specs.Told.{told};
-use crate::given::CVec2;
-use crate::told::CAnswer;
-use cheap_column::CheapColumn;
-
-#[repr(C)]
-pub struct CCheapColumn {
-    pub centre: CVec2,
-    pub height: f32,
-}
-
-fn cheap_column_of(job: CCheapColumn) -> CheapColumn
-    ensures { λ r. ⌜ r ≡ cheapColumnOf job ⌝ }
-{
-    let centre = crate::given::vec2_of(job.centre);
-    CheapColumn {
-        centre: centre,
-        height: job.height,
-    }
-}
+ghost use Rattle.boundary.specs.Given.{cheapColumnOf};
+ghost use Rattle.boundary.specs.Told.{told};
+use boundary::jobs::CCheapColumn;
+use boundary::told::CAnswer;
 
 // The counts of the job, or why it is refused.
 #[no_mangle]
 pub extern "C" fn hosirekar_cheap_column_plan(job: CCheapColumn, corners: &[f32]) -> CAnswer
     ensures { λ r. ⌜ r ≡ told (planned (cheapColumnOf job) (now (corners .entry))) ⌝ }
 {
-    crate::told::tell(cheap_column::plan(cheap_column_of(job), corners))
+    boundary::told::tell(cheap_column::plan(boundary::jobs::cheap_column_of(job), corners))
 }
 
 // The whole job, written to four buffers, or nothing.
@@ -45,8 +28,8 @@ pub extern "C" fn hosirekar_cheap_column_build(
     ensures answer { λ r. ⌜ r ≡ told (wholeAnswer (cheapColumnOf job) (now (corners .entry)) (four (now (vertices .entry)) (now (normals .entry)) (now (uvs .entry)) (now (indices .entry)))) ⌝ }
     ensures buffers { λ _. ⌜ four (now (vertices .exit)) (now (normals .exit)) (now (uvs .exit)) (now (indices .exit)) ≡ built (cheapColumnOf job) (now (corners .entry)) (four (now (vertices .entry)) (now (normals .entry)) (now (uvs .entry)) (now (indices .entry))) ⌝ }
 {
-    crate::told::tell(cheap_column::build(
-        cheap_column_of(job),
+    boundary::told::tell(cheap_column::build(
+        boundary::jobs::cheap_column_of(job),
         corners,
         vertices,
         normals,
@@ -69,8 +52,8 @@ pub extern "C" fn hosirekar_cheap_column_face(
     ensures answer { λ r. ⌜ r ≡ told (faceAnswer (cheapColumnOf job) (now (corners .entry)) number (four (now (vertices .entry)) (now (normals .entry)) (now (uvs .entry)) (now (indices .entry)))) ⌝ }
     ensures buffers { λ _. ⌜ four (now (vertices .exit)) (now (normals .exit)) (now (uvs .exit)) (now (indices .exit)) ≡ faced (cheapColumnOf job) (now (corners .entry)) number (four (now (vertices .entry)) (now (normals .entry)) (now (uvs .entry)) (now (indices .entry))) ⌝ }
 {
-    crate::told::tell(cheap_column::face(
-        cheap_column_of(job),
+    boundary::told::tell(cheap_column::face(
+        boundary::jobs::cheap_column_of(job),
         corners,
         number,
         vertices,

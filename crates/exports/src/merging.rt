@@ -2,10 +2,10 @@
 ghost use mathlib.Core.Path.{_≡_};
 ghost use Rattle.buffers.specs.Laying.{four};
 ghost use Rattle.merge.specs.Merge.{mergeAnswer, merged};
-ghost use Rattle.exports.specs.Given.{countsIn};
-ghost use Rattle.exports.specs.Told.{told};
-use crate::given::CCounts;
-use crate::told::CAnswer;
+ghost use Rattle.boundary.specs.Given.{countsIn};
+ghost use Rattle.boundary.specs.Told.{told};
+use boundary::given::CCounts;
+use boundary::told::CAnswer;
 
 // Appends a source mesh to a target, or writes nothing.
 #[no_mangle]
@@ -24,13 +24,13 @@ pub extern "C" fn hosirekar_merge(
     ensures answer { λ r. ⌜ r ≡ told (mergeAnswer (countsIn source) (four (now (svertices .entry)) (now (snormals .entry)) (now (suvs .entry)) (now (sindices .entry))) (countsIn target) (four (now (vertices .entry)) (now (normals .entry)) (now (uvs .entry)) (now (indices .entry)))) ⌝ }
     ensures buffers { λ _. ⌜ four (now (vertices .exit)) (now (normals .exit)) (now (uvs .exit)) (now (indices .exit)) ≡ merged (countsIn source) (four (now (svertices .entry)) (now (snormals .entry)) (now (suvs .entry)) (now (sindices .entry))) (countsIn target) (four (now (vertices .entry)) (now (normals .entry)) (now (uvs .entry)) (now (indices .entry))) ⌝ }
 {
-    crate::told::tell(merge::merge(
-        crate::given::counts_in(source),
+    boundary::told::tell(merge::merge(
+        boundary::given::counts_in(source),
         svertices,
         snormals,
         suvs,
         sindices,
-        crate::given::counts_in(target),
+        boundary::given::counts_in(target),
         vertices,
         normals,
         uvs,

@@ -2,31 +2,10 @@
 ghost use mathlib.Core.Path.{_≡_};
 ghost use Rattle.buffers.specs.Laying.{four};
 ghost use Rattle.plane_builder.specs.Plane.{planned, wholeAnswer, faceAnswer, built, faced};
-ghost use Rattle.exports.specs.Given.{planeOf};
-ghost use Rattle.exports.specs.Told.{told};
-use crate::given::CPlacement;
-use crate::given::CVec2;
-use crate::told::CAnswer;
-use plane_builder::Plane;
-
-#[repr(C)]
-pub struct CPlane {
-    pub position: CVec2,
-    pub option: u8,
-    pub placement: CPlacement,
-}
-
-fn plane_of(job: CPlane) -> Plane
-    ensures { λ r. ⌜ r ≡ planeOf job ⌝ }
-{
-    let position = crate::given::vec2_of(job.position);
-    let placement = crate::given::placement_of(job.placement);
-    Plane {
-        position: position,
-        option: job.option,
-        placement: placement,
-    }
-}
+ghost use Rattle.boundary.specs.Given.{planeOf};
+ghost use Rattle.boundary.specs.Told.{told};
+use boundary::jobs::CPlane;
+use boundary::told::CAnswer;
 
 // The counts of the job, or why it is refused.
 #[no_mangle]
@@ -38,7 +17,12 @@ pub extern "C" fn hosirekar_plane_plan(
 ) -> CAnswer
     ensures { λ r. ⌜ r ≡ told (planned (planeOf job) (now (corners .entry)) (now (numbers .entry)) (now (marks .entry))) ⌝ }
 {
-    crate::told::tell(plane_builder::plan(plane_of(job), corners, numbers, marks))
+    boundary::told::tell(plane_builder::plan(
+        boundary::jobs::plane_of(job),
+        corners,
+        numbers,
+        marks,
+    ))
 }
 
 // The whole job, written to four buffers, or nothing.
@@ -56,8 +40,8 @@ pub extern "C" fn hosirekar_plane_build(
     ensures answer { λ r. ⌜ r ≡ told (wholeAnswer (planeOf job) (now (corners .entry)) (now (numbers .entry)) (now (marks .entry)) (four (now (vertices .entry)) (now (normals .entry)) (now (uvs .entry)) (now (indices .entry)))) ⌝ }
     ensures buffers { λ _. ⌜ four (now (vertices .exit)) (now (normals .exit)) (now (uvs .exit)) (now (indices .exit)) ≡ built (planeOf job) (now (corners .entry)) (now (numbers .entry)) (now (marks .entry)) (four (now (vertices .entry)) (now (normals .entry)) (now (uvs .entry)) (now (indices .entry))) ⌝ }
 {
-    crate::told::tell(plane_builder::build(
-        plane_of(job),
+    boundary::told::tell(plane_builder::build(
+        boundary::jobs::plane_of(job),
         corners,
         numbers,
         marks,
@@ -84,8 +68,8 @@ pub extern "C" fn hosirekar_plane_face(
     ensures answer { λ r. ⌜ r ≡ told (faceAnswer (planeOf job) (now (corners .entry)) (now (numbers .entry)) (now (marks .entry)) number (four (now (vertices .entry)) (now (normals .entry)) (now (uvs .entry)) (now (indices .entry)))) ⌝ }
     ensures buffers { λ _. ⌜ four (now (vertices .exit)) (now (normals .exit)) (now (uvs .exit)) (now (indices .exit)) ≡ faced (planeOf job) (now (corners .entry)) (now (numbers .entry)) (now (marks .entry)) number (four (now (vertices .entry)) (now (normals .entry)) (now (uvs .entry)) (now (indices .entry))) ⌝ }
 {
-    crate::told::tell(plane_builder::face(
-        plane_of(job),
+    boundary::told::tell(plane_builder::face(
+        boundary::jobs::plane_of(job),
         corners,
         numbers,
         marks,

@@ -2,50 +2,14 @@
 ghost use mathlib.Core.Path.{_≡_};
 ghost use Rattle.buffers.specs.Laying.{four};
 ghost use Rattle.mesh.specs.Stored.{scaleAnswer, scaled, offsetAnswer, shifted, textureScaleAnswer, textureScaled, centroidOf, uvCentroidOf};
-ghost use Rattle.exports.specs.Given.{countsIn, vec2Of, vec3Of};
-ghost use Rattle.exports.specs.Told.{told, toldCentroid, toldUvCentroid};
-use crate::given::CCounts;
-use crate::given::CVec2;
-use crate::given::CVec3;
-use crate::told::CAnswer;
-use mesh::stored::CentroidAnswer;
-use mesh::stored::UvCentroidAnswer;
-
-#[repr(C)]
-pub struct CCentroid {
-    pub answer: CAnswer,
-    pub centroid: CVec3,
-}
-
-#[repr(C)]
-pub struct CUvCentroid {
-    pub answer: CAnswer,
-    pub centroid: CVec2,
-}
-
-fn tell_centroid(c: CentroidAnswer) -> CCentroid
-    ensures { λ r. ⌜ r ≡ toldCentroid c ⌝ }
-{
-    let inner = c.answer;
-    let answer = crate::told::tell(inner);
-    let centroid = crate::told::tell3(c.centroid);
-    CCentroid {
-        answer: answer,
-        centroid: centroid,
-    }
-}
-
-fn tell_uv_centroid(c: UvCentroidAnswer) -> CUvCentroid
-    ensures { λ r. ⌜ r ≡ toldUvCentroid c ⌝ }
-{
-    let inner = c.answer;
-    let answer = crate::told::tell(inner);
-    let centroid = crate::told::tell2(c.centroid);
-    CUvCentroid {
-        answer: answer,
-        centroid: centroid,
-    }
-}
+ghost use Rattle.boundary.specs.Given.{countsIn, vec2Of, vec3Of};
+ghost use Rattle.boundary.specs.Told.{told, toldCentroid, toldUvCentroid};
+use boundary::given::CCounts;
+use boundary::given::CVec2;
+use boundary::given::CVec3;
+use boundary::told::CAnswer;
+use boundary::told::CCentroid;
+use boundary::told::CUvCentroid;
 
 // Multiplies each position, component by component.
 #[no_mangle]
@@ -60,9 +24,9 @@ pub extern "C" fn hosirekar_scale(
     ensures answer { λ r. ⌜ r ≡ told (scaleAnswer (countsIn counts) (vec3Of by) (four (now (vertices .entry)) (now (normals .entry)) (now (uvs .entry)) (now (indices .entry)))) ⌝ }
     ensures buffers { λ _. ⌜ four (now (vertices .exit)) (now (normals .entry)) (now (uvs .entry)) (now (indices .entry)) ≡ scaled (countsIn counts) (vec3Of by) (four (now (vertices .entry)) (now (normals .entry)) (now (uvs .entry)) (now (indices .entry))) ⌝ }
 {
-    crate::told::tell(mesh::stored::scale(
-        crate::given::counts_in(counts),
-        crate::given::vec3_of(by),
+    boundary::told::tell(mesh::stored::scale(
+        boundary::given::counts_in(counts),
+        boundary::given::vec3_of(by),
         vertices,
         normals,
         uvs,
@@ -83,9 +47,9 @@ pub extern "C" fn hosirekar_offset(
     ensures answer { λ r. ⌜ r ≡ told (offsetAnswer (countsIn counts) (vec3Of by) (four (now (vertices .entry)) (now (normals .entry)) (now (uvs .entry)) (now (indices .entry)))) ⌝ }
     ensures buffers { λ _. ⌜ four (now (vertices .exit)) (now (normals .entry)) (now (uvs .entry)) (now (indices .entry)) ≡ shifted (countsIn counts) (vec3Of by) (four (now (vertices .entry)) (now (normals .entry)) (now (uvs .entry)) (now (indices .entry))) ⌝ }
 {
-    crate::told::tell(mesh::stored::offset(
-        crate::given::counts_in(counts),
-        crate::given::vec3_of(by),
+    boundary::told::tell(mesh::stored::offset(
+        boundary::given::counts_in(counts),
+        boundary::given::vec3_of(by),
         vertices,
         normals,
         uvs,
@@ -106,9 +70,9 @@ pub extern "C" fn hosirekar_texture_scale(
     ensures answer { λ r. ⌜ r ≡ told (textureScaleAnswer (countsIn counts) (vec2Of by) (four (now (vertices .entry)) (now (normals .entry)) (now (uvs .entry)) (now (indices .entry)))) ⌝ }
     ensures buffers { λ _. ⌜ four (now (vertices .entry)) (now (normals .entry)) (now (uvs .exit)) (now (indices .entry)) ≡ textureScaled (countsIn counts) (vec2Of by) (four (now (vertices .entry)) (now (normals .entry)) (now (uvs .entry)) (now (indices .entry))) ⌝ }
 {
-    crate::told::tell(mesh::stored::texture_scale(
-        crate::given::counts_in(counts),
-        crate::given::vec2_of(by),
+    boundary::told::tell(mesh::stored::texture_scale(
+        boundary::given::counts_in(counts),
+        boundary::given::vec2_of(by),
         vertices,
         normals,
         uvs,
@@ -127,8 +91,8 @@ pub extern "C" fn hosirekar_centroid(
 ) -> CCentroid
     ensures { λ r. ⌜ r ≡ toldCentroid (centroidOf (countsIn counts) (four (now (vertices .entry)) (now (normals .entry)) (now (uvs .entry)) (now (indices .entry)))) ⌝ }
 {
-    tell_centroid(mesh::stored::centroid(
-        crate::given::counts_in(counts),
+    boundary::told::tell_centroid(mesh::stored::centroid(
+        boundary::given::counts_in(counts),
         vertices,
         normals,
         uvs,
@@ -147,8 +111,8 @@ pub extern "C" fn hosirekar_uv_centroid(
 ) -> CUvCentroid
     ensures { λ r. ⌜ r ≡ toldUvCentroid (uvCentroidOf (countsIn counts) (four (now (vertices .entry)) (now (normals .entry)) (now (uvs .entry)) (now (indices .entry)))) ⌝ }
 {
-    tell_uv_centroid(mesh::stored::uv_centroid(
-        crate::given::counts_in(counts),
+    boundary::told::tell_uv_centroid(mesh::stored::uv_centroid(
+        boundary::given::counts_in(counts),
         vertices,
         normals,
         uvs,

@@ -30,11 +30,17 @@ fn plain(text: &str) -> String {
         .join(" ")
 }
 
-/// All of the archive's source.
+/// All of the archive's source: the functions stand in `exports`, their structs in `boundary`.
 fn archive() -> String {
-    let folder = package().join("../../crates/exports/src");
-    let entries = std::fs::read_dir(&folder).expect("the archive's source is beside rust/");
-    let mut files: Vec<PathBuf> = entries.map(|entry| entry.unwrap().path()).collect();
+    let folders = ["exports", "boundary"].map(|name| package().join("../../crates").join(name));
+    let mut files: Vec<PathBuf> = folders
+        .iter()
+        .flat_map(|folder| {
+            let entries = std::fs::read_dir(folder.join("src"));
+            entries.expect("the archive's source is beside rust/")
+        })
+        .map(|entry| entry.unwrap().path())
+        .collect();
     files.sort();
     plain(&files.iter().map(|file| read(file)).collect::<String>())
 }

@@ -3,7 +3,7 @@ use borrow.Author.Needs.{needs}
 use denote.Ref.{now}
 use Rattle.cheap_column.specs.declared.CheapColumn.{CheapColumn}
 use Rattle.cheap_column.specs.CheapColumn.{planned}
-use Rattle.exports.specs.Told.{told}
+use Rattle.boundary.specs.Told.{told}
 use Rattle.exports.proofs.Carried.{carried}
 use Rattle.exports.proofs.cheap.hosirekar_cheap_column_plan.Statement.{statement}
 use Rattle.exports.proofs.cheap.hosirekar_cheap_column_plan.Tie as tie

@@ -5,7 +5,7 @@ use Rattle.buffers.specs.Laying.{four}
 use Rattle.column.specs.declared.Column.{Column}
 use Rattle.column.specs.Column.{lists}
 use Rattle.column_builder.specs.Calls.{faceAnswer, faced}
-use Rattle.exports.specs.Told.{told}
+use Rattle.boundary.specs.Told.{told}
 use Rattle.exports.proofs.Carried.{carried}
 use Rattle.exports.proofs.columns.hosirekar_column_face.Statement.{statement}
 use Rattle.exports.proofs.columns.hosirekar_column_face.Tie as tie
@@ -17,10 +17,10 @@ hosirekar-column-face-spec =
     (λ c κs. search needs)
     (λ c κs. search needs)
     (λ c κs. search needs)
-    (λ c. search needs)
-    (λ c. search needs)
-    (λ c. search needs)
-    (λ c. search needs)
+    (λ c. c .before .before .before .before .before .before .before .before .before .face .kept .1 .1 .1 .1 .1 .1 .0)
+    (λ c. c .before .before .before .before .before .before .before .before .before .face .kept .1 .1 .1 .1 .1 .1 .1 .0)
+    (λ c. c .before .before .before .before .before .before .before .before .before .face .kept .1 .1 .1 .1 .1 .1 .1 .1 .0)
+    (λ c. c .before .before .before .before .before .before .before .before .before .face .kept .1 .1 .1 .1 .1 .1 .1 .1 .1 .0)
     (λ c.
     let a = c .before .before .before .before .before .before .before .before .before .before .before .before .before .before .before .before .before .before .before .before .before .before .before .args in
     let B = four (now (a .vertices)) (now (a .normals)) (now (a .uvs)) (now (a .indices)) in

@@ -3,7 +3,7 @@ use borrow.Author.Needs.{needs}
 use denote.Ref.{now}
 use Rattle.column.specs.declared.Column.{Column}
 use Rattle.column.specs.Column.{lists, planned}
-use Rattle.exports.specs.Told.{told}
+use Rattle.boundary.specs.Told.{told}
 use Rattle.exports.proofs.Carried.{carried}
 use Rattle.exports.proofs.columns.hosirekar_column_plan.Statement.{statement}
 use Rattle.exports.proofs.columns.hosirekar_column_plan.Tie as tie

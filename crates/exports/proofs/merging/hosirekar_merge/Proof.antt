@@ -4,8 +4,8 @@ use denote.Ref.{now}
 use Rattle.face.specs.declared.triangle.Counts.{Counts}
 use Rattle.buffers.specs.Laying.{four}
 use Rattle.merge.specs.Merge.{mergeAnswer, merged}
-use Rattle.exports.specs.Given.{countsIn}
-use Rattle.exports.specs.Told.{told}
+use Rattle.boundary.specs.Given.{countsIn}
+use Rattle.boundary.specs.Told.{told}
 use Rattle.exports.proofs.Carried.{carried}
 use Rattle.exports.proofs.merging.hosirekar_merge.Statement.{statement}
 use Rattle.exports.proofs.merging.hosirekar_merge.Tie as tie
@@ -18,10 +18,10 @@ hosirekar-merge-spec =
     (λ c κs. search needs)
     (λ c κs. search needs)
     (λ c κs. search needs)
-    (λ c. search needs)
-    (λ c. search needs)
-    (λ c. search needs)
-    (λ c. search needs)
+    (λ c. c .before .before .before .before .before .before .before .before .before .merge .kept .1 .1 .1 .1 .1 .1 .0)
+    (λ c. c .before .before .before .before .before .before .before .before .before .merge .kept .1 .1 .1 .1 .1 .1 .1 .0)
+    (λ c. c .before .before .before .before .before .before .before .before .before .merge .kept .1 .1 .1 .1 .1 .1 .1 .1 .0)
+    (λ c. c .before .before .before .before .before .before .before .before .before .merge .kept .1 .1 .1 .1 .1 .1 .1 .1 .1 .0)
     (λ c.
     let a = c .before .before .before .before .before .before .before .before .before .before .before .before .before .before .before .before .before .before .before .before .before .before .before .before .args in
     let S = four (now (a .svertices)) (now (a .snormals)) (now (a .suvs)) (now (a .sindices)) in

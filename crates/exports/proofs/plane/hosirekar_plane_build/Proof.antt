@@ -4,7 +4,7 @@ use denote.Ref.{now}
 use Rattle.buffers.specs.Laying.{four}
 use Rattle.plane_builder.specs.declared.Plane.{Plane}
 use Rattle.plane_builder.specs.Plane.{wholeAnswer, built}
-use Rattle.exports.specs.Told.{told}
+use Rattle.boundary.specs.Told.{told}
 use Rattle.exports.proofs.Carried.{carried}
 use Rattle.exports.proofs.plane.hosirekar_plane_build.Statement.{statement}
 use Rattle.exports.proofs.plane.hosirekar_plane_build.Tie as tie
@@ -16,10 +16,10 @@ hosirekar-plane-build-spec =
     (λ c κs. search needs)
     (λ c κs. search needs)
     (λ c κs. search needs)
-    (λ c. search needs)
-    (λ c. search needs)
-    (λ c. search needs)
-    (λ c. search needs)
+    (λ c. c .before .before .before .before .before .before .before .before .before .build .kept .1 .1 .1 .1 .0)
+    (λ c. c .before .before .before .before .before .before .before .before .before .build .kept .1 .1 .1 .1 .1 .0)
+    (λ c. c .before .before .before .before .before .before .before .before .before .build .kept .1 .1 .1 .1 .1 .1 .0)
+    (λ c. c .before .before .before .before .before .before .before .before .before .build .kept .1 .1 .1 .1 .1 .1 .1 .0)
     (λ c.
     let a = c .before .before .before .before .before .before .before .before .before .before .before .before .before .before .before .before .before .before .before .before .before .before .args in
     let B = four (now (a .vertices)) (now (a .normals)) (now (a .uvs)) (now (a .indices)) in

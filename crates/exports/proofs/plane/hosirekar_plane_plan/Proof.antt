@@ -3,7 +3,7 @@ use borrow.Author.Needs.{needs}
 use denote.Ref.{now}
 use Rattle.plane_builder.specs.declared.Plane.{Plane}
 use Rattle.plane_builder.specs.Plane.{planned}
-use Rattle.exports.specs.Told.{told}
+use Rattle.boundary.specs.Told.{told}
 use Rattle.exports.proofs.Carried.{carried}
 use Rattle.exports.proofs.plane.hosirekar_plane_plan.Statement.{statement}
 use Rattle.exports.proofs.plane.hosirekar_plane_plan.Tie as tie

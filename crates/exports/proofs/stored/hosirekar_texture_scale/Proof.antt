@@ -5,8 +5,8 @@ use Rattle.face.specs.declared.triangle.Counts.{Counts}
 use Rattle.face.specs.declared.vec.Vec2.{Vec2}
 use Rattle.buffers.specs.Laying.{four}
 use Rattle.mesh.specs.Stored.{textureScaleAnswer, textureScaled}
-use Rattle.exports.specs.Given.{countsIn}
-use Rattle.exports.specs.Told.{told}
+use Rattle.boundary.specs.Given.{countsIn}
+use Rattle.boundary.specs.Told.{told}
 use Rattle.exports.proofs.Carried.{carried}
 use Rattle.exports.proofs.stored.hosirekar_texture_scale.Statement.{statement}
 use Rattle.exports.proofs.stored.hosirekar_texture_scale.Tie as tie
@@ -19,7 +19,7 @@ hosirekar-texture-scale-spec =
     (λ c κs. search needs)
     (λ c κs. search needs)
     (λ c κs. search needs)
-    (λ c. search needs)
+    (λ c. c .before .before .before .texture-scale .kept .1 .1 .1 .1 .0)
     (λ c.
     let a = c .before .before .before .before .before .before .before .before .before .before .before .args in
     let B = four (now (a .vertices)) (now (a .normals)) (now (a .uvs)) (now (a .indices)) in

@@ -4,7 +4,7 @@ use denote.Ref.{now}
 use Rattle.face.specs.declared.triangle.Counts.{Counts}
 use Rattle.buffers.specs.Laying.{four}
 use Rattle.mesh.specs.Stored.{uvCentroidOf}
-use Rattle.exports.specs.Told.{toldUvCentroid}
+use Rattle.boundary.specs.Told.{toldUvCentroid}
 use Rattle.exports.proofs.Carried.{carried}
 use Rattle.exports.proofs.stored.hosirekar_uv_centroid.Statement.{statement}
 use Rattle.exports.proofs.stored.hosirekar_uv_centroid.Tie as tie

@@ -1,0 +1,12 @@
+-- `tell_centroid`: the answer and the value. Assumes nothing.
+use borrow.Author.Needs.{needs}
+use Rattle.boundary.proofs.told.tell_centroid.Statement.{statement}
+use Rattle.boundary.proofs.told.tell_centroid.Tie as tie
+
+pub tell-centroid-spec : {M : Type 1} → statement M
+tell-centroid-spec =
+    tie.close
+    (tie.spec
+    (λ c κs. search needs)
+    (λ c κs. search needs)
+    (λ c. rw (c .tell3 .ensures, c .before .tell .ensures)))

@@ -1,0 +1,101 @@
+-- What a caller from C hands over, as the crates below take it. Definitions only.
+use Prim.Native.Nat.{ℕ}
+use mathlib.Core.Bool.{Bool, false}
+use mathlib.Core.List.{List}
+use lib.ListN.{getD}
+use Rattle.face.specs.declared.vec.Vec2.{Vec2}
+use Rattle.face.specs.declared.vec.Vec3.{Vec3}
+use Rattle.face.specs.declared.triangle.Counts.{Counts}
+use Rattle.face.specs.declared.uv_mapping.UvOptions.{UvOptions}
+use Rattle.face.specs.Lists.{pick, each}
+use Rattle.face.specs.Vec.{v2, v3}
+use Rattle.face.specs.Triangles.{counts}
+use Rattle.placement.specs.declared.placement.Choice3.{Choice3}
+use Rattle.placement.specs.declared.placement.Choice3.the-variants as choice3
+use Rattle.placement.specs.declared.placement.Turn.{Turn}
+use Rattle.placement.specs.declared.placement.Turn.the-variants as turn
+use Rattle.placement.specs.declared.placement.Placement.{Placement}
+use Rattle.cheap_column.specs.declared.CheapColumn.{CheapColumn}
+use Rattle.plane_builder.specs.declared.Plane.{Plane}
+use Rattle.column.specs.declared.Subdivisions.{Subdivisions}
+use Rattle.column.specs.declared.Subdivisions.the-variants as subdivisions
+use Rattle.column.specs.declared.Choice.{Choice}
+use Rattle.column.specs.declared.Choice.the-variants as option
+use Rattle.column.specs.declared.Side.{Side}
+use Rattle.column.specs.declared.Column.{Column}
+use Rattle.boundary.specs.declared.given.CVec2.{CVec2}
+use Rattle.boundary.specs.declared.given.CVec3.{CVec3}
+use Rattle.boundary.specs.declared.given.CCounts.{CCounts}
+use Rattle.boundary.specs.declared.given.CChoice3.{CChoice3}
+use Rattle.boundary.specs.declared.given.CTurn.{CTurn}
+use Rattle.boundary.specs.declared.given.CPlacement.{CPlacement}
+use Rattle.boundary.specs.declared.jobs.CPlane.{CPlane}
+use Rattle.boundary.specs.declared.jobs.CChoice.{CChoice}
+use Rattle.boundary.specs.declared.jobs.CSubdivisions.{CSubdivisions}
+use Rattle.boundary.specs.declared.jobs.CColumn.{CColumn}
+use Rattle.boundary.specs.declared.jobs.CCheapColumn.{CCheapColumn}
+use Rattle.boundary.specs.declared.given.CUvOptions.{CUvOptions}
+
+abbrev pub vec2Of : CVec2 → Vec2
+vec2Of p = v2 (p .x) (p .y)
+
+abbrev pub vec3Of : CVec3 → Vec3
+vec3Of p = v3 (p .x) (p .y) (p .z)
+
+abbrev pub countsIn : CCounts → Counts
+countsIn c = counts (c .vertices) (c .indices)
+
+-- ---- a choice is there where its bool says so
+abbrev pub choice3Of : CChoice3 → Choice3
+choice3Of c = pick (c .given) (choice3.With (vec3Of (c .value))) choice3.Absent
+
+abbrev pub turnOf : CTurn → Turn
+turnOf t = pick (t .given) (turn.Rows (vec3Of (t .first)) (vec3Of (t .second)) (vec3Of (t .third))) turn.Absent
+
+abbrev pub placementOf : CPlacement → Placement
+placementOf s = record { scale = choice3Of (s .scale); turn = turnOf (s .turn); offset = choice3Of (s .offset) }
+
+abbrev pub choiceOf : CChoice → Choice
+choiceOf c = pick (c .given) (option.With (c .option)) option.Absent
+
+abbrev pub subdivisionsOf : CSubdivisions → Subdivisions
+subdivisionsOf s = pick (s .given) (subdivisions.Of (s .number)) subdivisions.Absent
+
+-- ---- jobs
+abbrev pub planeOf : CPlane → Plane
+planeOf job = record { position = vec2Of (job .position); option = job .option; placement = placementOf (job .placement) }
+
+abbrev pub cheapColumnOf : CCheapColumn → CheapColumn
+cheapColumnOf job = record { centre = vec2Of (job .centre); height = job .height }
+
+abbrev pub noChoice : CChoice
+noChoice = record { given = false; option = 0 }
+
+abbrev pub sideOf : CChoice → Side
+sideOf c = record { option = choiceOf c }
+
+abbrev pub sidesOf : List CChoice → List Side
+sidesOf ss = each (λ d. sideOf (getD ss d noChoice)) 6
+
+abbrev pub columnOf : CColumn → Column
+columnOf job =
+    record {
+      height = job .height;
+      subdivisions = subdivisionsOf (job .subdivisions);
+      sides = sidesOf (job .sides);
+      top = choiceOf (job .top);
+      bottom = choiceOf (job .bottom);
+      position = vec2Of (job .position);
+      placement = placementOf (job .placement);
+    }
+
+-- ---- texture options
+abbrev pub uvOptionsOf : CUvOptions → UvOptions
+uvOptionsOf o =
+    record {
+      scale = vec2Of (o .scale);
+      offset = vec2Of (o .offset);
+      min = vec2Of (o .min);
+      max = vec2Of (o .max);
+      flip = record { u = o .flip .u; v = o .flip .v };
+    }

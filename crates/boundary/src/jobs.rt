@@ -1,0 +1,129 @@
+// A job as a caller hands it over, beside its lists.
+ghost use mathlib.Core.Path.{_≡_};
+ghost use Rattle.boundary.specs.Given.{planeOf, choiceOf, sideOf, sidesOf, subdivisionsOf, columnOf, cheapColumnOf};
+use crate::given::CPlacement;
+use crate::given::CVec2;
+use cheap_column::CheapColumn;
+use column::Choice;
+use column::Column;
+use column::Side;
+use column::Subdivisions;
+use plane_builder::Plane;
+
+#[repr(C)]
+pub struct CPlane {
+    pub position: CVec2,
+    pub option: u8,
+    pub placement: CPlacement,
+}
+
+// Whether a face is there, and the number of its option.
+#[repr(C)]
+pub struct CChoice {
+    pub given: bool,
+    pub option: u8,
+}
+
+#[repr(C)]
+pub struct CSubdivisions {
+    pub given: bool,
+    pub number: u32,
+}
+
+#[repr(C)]
+pub struct CColumn {
+    pub height: f32,
+    pub subdivisions: CSubdivisions,
+    pub sides: [CChoice; 6],
+    pub top: CChoice,
+    pub bottom: CChoice,
+    pub position: CVec2,
+    pub placement: CPlacement,
+}
+
+#[repr(C)]
+pub struct CCheapColumn {
+    pub centre: CVec2,
+    pub height: f32,
+}
+
+pub fn plane_of(job: CPlane) -> Plane
+    ensures { λ r. ⌜ r ≡ planeOf job ⌝ }
+{
+    let position = crate::given::vec2_of(job.position);
+    let placement = crate::given::placement_of(job.placement);
+    Plane {
+        position: position,
+        option: job.option,
+        placement: placement,
+    }
+}
+
+fn choice_of(c: CChoice) -> Choice
+    ensures { λ r. ⌜ r ≡ choiceOf c ⌝ }
+{
+    if c.given {
+        return Choice::With(c.option);
+    }
+    Choice::Absent
+}
+
+fn side_of(c: CChoice) -> Side
+    ensures { λ r. ⌜ r ≡ sideOf c ⌝ }
+{
+    let option = choice_of(c);
+    Side { option: option }
+}
+
+fn sides_of(sides: [CChoice; 6]) -> [Side; 6]
+    ensures { λ r. ⌜ r ≡ sidesOf sides ⌝ }
+{
+    [
+        side_of(sides[0]),
+        side_of(sides[1]),
+        side_of(sides[2]),
+        side_of(sides[3]),
+        side_of(sides[4]),
+        side_of(sides[5]),
+    ]
+}
+
+fn subdivisions_of(s: CSubdivisions) -> Subdivisions
+    ensures { λ r. ⌜ r ≡ subdivisionsOf s ⌝ }
+{
+    if s.given {
+        return Subdivisions::Of(s.number);
+    }
+    Subdivisions::Absent
+}
+
+pub fn column_of(job: CColumn) -> Column
+    ensures { λ r. ⌜ r ≡ columnOf job ⌝ }
+{
+    let given = job.sides;
+    let subdivisions = subdivisions_of(job.subdivisions);
+    let sides = sides_of(given);
+    let top = choice_of(job.top);
+    let bottom = choice_of(job.bottom);
+    let position = crate::given::vec2_of(job.position);
+    let placement = crate::given::placement_of(job.placement);
+    Column {
+        height: job.height,
+        subdivisions: subdivisions,
+        sides: sides,
+        top: top,
+        bottom: bottom,
+        position: position,
+        placement: placement,
+    }
+}
+
+pub fn cheap_column_of(job: CCheapColumn) -> CheapColumn
+    ensures { λ r. ⌜ r ≡ cheapColumnOf job ⌝ }
+{
+    let centre = crate::given::vec2_of(job.centre);
+    CheapColumn {
+        centre: centre,
+        height: job.height,
+    }
+}

@@ -1,0 +1,3 @@
+pub mod Determined
+mod Named
+pub mod Whole
