@@ -1,8 +1,9 @@
 #!/usr/bin/env python3
 """Prints the answer of the sheet on standard input, from the scope and hexx's face.rs alone, with every
-float step rounded to 32 bits by struct. The answers in crates/panel_cases/stdout were made with it.
+float step rounded to 32 bits by struct. With the word `cases` it prints what panel_cases is to write of its
+own standard input, crates/panel_cases/stdin.
 """
-import math, re, struct
+import math, re, struct, sys
 def f(x):
     if x != x: return x
     try: return struct.unpack('<f', struct.pack('<f', x))[0]
@@ -81,6 +82,18 @@ def answer(t):
         out.append('%s %d\n' % (name, len(l))); out += [' '.join('%08x' % bits(c) for c in v) + '\n' for v in l]
     out.append('indices %d\n' % len(idx)); out += ['%d %d %d\n' % tuple(idx[i:i+3]) for i in range(0, len(idx), 3)]
     return ''.join(out).encode()
+def shown(text):
+    if len(text) <= 1000: return text
+    total = 0
+    for byte in text: total = (total * 31 + byte) % 2**32
+    return b'%d bytes, sum %08x\n' % (len(text), total)
+def cases(text): # a name and a newline, a sheet, and '=' and a newline
+    told = b''
+    for case in text.split(b'=\n')[:-1]:
+        name, sheet = case.split(b'\n', 1)
+        told += name + b'\n' + shown(answer(sheet))
+    # `refused 9` has ten bytes, which do not fit into nine places.
+    return told + b'too short, and long enough\n0 ' + b'-' * 9 + b'\n10 ' + answer(b'') + b'-\n'
 if __name__ == '__main__':
-    import sys
-    sys.stdout.buffer.write(answer(sys.stdin.buffer.read()))
+    told = cases if sys.argv[1:] == ['cases'] else answer
+    sys.stdout.buffer.write(told(sys.stdin.buffer.read()))

@@ -5,6 +5,7 @@ use face::vec::Vec2;
 use known::answers;
 use known::lists;
 use known::lists::Lengths;
+ghost use Prim.Native.Nat.{_≤_};
 
 // The room of a list of floats and of the list of indices.
 const FLOATS: usize = 40;
@@ -45,12 +46,12 @@ fn column(j: Job) -> CheapColumn {
 }
 
 // The corners are the first twelve; what a longer list has behind them is a number as well.
-fn fill_corners(j: Job, out: &mut [f32]) {
-    let mut i = 0;
-    while i < out.len() {
-        out[i] = if i < 12 { number(j, i) } else { 1.0 };
-        i += 1;
+fn corners_of(j: Job) -> [f32; FLOATS] {
+    let mut out = [1.0f32; FLOATS];
+    for i in 0usize..12 {
+        out[i] = number(j, i);
     }
+    out
 }
 
 // The triangles of hexx's table.
@@ -163,7 +164,7 @@ fn float_right(j: Job, list: u32, place: usize) -> u32 {
     lists::pattern_at(list, place)
 }
 
-fn list_right(j: Job, list: u32, numbers: &[f32; FLOATS]) -> bool {
+fn list_right(j: Job, list: u32, numbers: [f32; FLOATS]) -> bool {
     let mut i = 0;
     while i < 40 {
         if record::pattern(numbers[i]) != float_right(j, list, i) {
@@ -181,7 +182,7 @@ fn index_right(j: Job, place: usize) -> u16 {
     lists::index_at(place)
 }
 
-fn indices_right(j: Job, indices: &[u16; INDICES]) -> bool {
+fn indices_right(j: Job, indices: [u16; INDICES]) -> bool {
     let mut i = 0;
     while i < 52 {
         if indices[i] != index_right(j, i) {
@@ -192,79 +193,126 @@ fn indices_right(j: Job, indices: &[u16; INDICES]) -> bool {
     true
 }
 
-// The build, or a face call.
-fn built(
-    j: Job,
-    corners: &[f32],
-    vertices: &mut [f32],
-    normals: &mut [f32],
-    uvs: &mut [f32],
-    indices: &mut [u16],
-) -> Answer {
-    let job = column(j);
-    if j.call == 1 {
-        return cheap_column::build(job, corners, vertices, normals, uvs, indices);
-    }
-    cheap_column::face(job, corners, j.face, vertices, normals, uvs, indices)
+// The answer of a call, and what it has left in the four lists.
+struct Left {
+    answer: Answer,
+    vertices: [f32; FLOATS],
+    normals: [f32; FLOATS],
+    uvs: [f32; FLOATS],
+    indices: [u16; INDICES],
 }
 
-// The same, with as much of each list as the case lends.
-fn with_lent(
-    j: Job,
-    corners: &[f32],
-    vertices: &mut [f32],
-    normals: &mut [f32],
-    uvs: &mut [f32],
-    indices: &mut [u16],
-) -> Answer {
+// A list as it stands before a call.
+fn floats(list: u32) -> [f32; FLOATS] {
+    let mut out = [0.0f32; FLOATS];
+    lists::fill(list, &mut out);
+    out
+}
+
+fn some_indices() -> [u16; INDICES] {
+    let mut out = [0u16; INDICES];
+    lists::fill_indices(&mut out);
+    out
+}
+
+// How much of each list a case lends.
+fn lent(j: Job) -> Lengths
+    ensures { λ r. ⌜ (r .vertices ≤ 40) × (r .normals ≤ 40) × (r .uvs ≤ 40) × (r .indices ≤ 52) ⌝ }
+{
     let all = j.lent;
-    let l = lists::within(all, vertices.len(), normals.len(), uvs.len(), indices.len());
+    lists::within(all, FLOATS, FLOATS, FLOATS, INDICES)
+}
+
+fn whole(j: Job, corners: &[f32]) -> Left {
+    let mut vertices = floats(1);
+    let mut normals = floats(2);
+    let mut uvs = floats(3);
+    let mut indices = some_indices();
+    let l = lent(j);
     let v = l.vertices;
     let n = l.normals;
     let u = l.uvs;
     let i = l.indices;
-    built(
-        j,
+    let answer = cheap_column::build(
+        column(j),
         corners,
         &mut vertices[..v],
         &mut normals[..n],
         &mut uvs[..u],
         &mut indices[..i],
-    )
-}
-
-// Any of the calls, with as many corners as the case has.
-fn called(
-    j: Job,
-    corners: &[f32],
-    vertices: &mut [f32],
-    normals: &mut [f32],
-    uvs: &mut [f32],
-    indices: &mut [u16],
-) -> Answer {
-    let a = lists::at_most(j.corners, corners.len());
-    if j.call == 0 {
-        return cheap_column::plan(column(j), &corners[..a]);
+    );
+    Left {
+        answer: answer,
+        vertices: vertices,
+        normals: normals,
+        uvs: uvs,
+        indices: indices,
     }
-    with_lent(j, &corners[..a], vertices, normals, uvs, indices)
 }
 
-fn lists_judged(
-    j: Job,
-    vertices: &[f32; FLOATS],
-    normals: &[f32; FLOATS],
-    uvs: &[f32; FLOATS],
-    indices: &[u16; INDICES],
-) -> u32 {
+fn single(j: Job, corners: &[f32]) -> Left {
+    let mut vertices = floats(1);
+    let mut normals = floats(2);
+    let mut uvs = floats(3);
+    let mut indices = some_indices();
+    let l = lent(j);
+    let v = l.vertices;
+    let n = l.normals;
+    let u = l.uvs;
+    let i = l.indices;
+    let answer = cheap_column::face(
+        column(j),
+        corners,
+        j.face,
+        &mut vertices[..v],
+        &mut normals[..n],
+        &mut uvs[..u],
+        &mut indices[..i],
+    );
+    Left {
+        answer: answer,
+        vertices: vertices,
+        normals: normals,
+        uvs: uvs,
+        indices: indices,
+    }
+}
+
+// A plan lends no list.
+fn planned(j: Job, corners: &[f32]) -> Left {
+    Left {
+        answer: cheap_column::plan(column(j), corners),
+        vertices: floats(1),
+        normals: floats(2),
+        uvs: floats(3),
+        indices: some_indices(),
+    }
+}
+
+fn called(j: Job, corners: &[f32]) -> Left {
+    if j.call == 0 {
+        return planned(j, corners);
+    }
+    if j.call == 1 {
+        return whole(j, corners);
+    }
+    single(j, corners)
+}
+
+fn lists_judged(j: Job, left: Left) -> u32 {
+    let vertices = left.vertices;
     if !list_right(j, 1, vertices) {
         return answers::VERTICES;
     }
+    let normals = left.normals;
     if !list_right(j, 2, normals) {
         return answers::NORMALS;
     }
+    let uvs = left.uvs;
     if !list_right(j, 3, uvs) {
         return answers::UVS;
     }
+    let indices = left.indices;
     if !indices_right(j, indices) {
         return answers::INDICES;
     }
@@ -273,29 +321,15 @@ fn lists_judged(
 
 // What a call finds first that is not as it should be.
 fn judged(j: Job) -> u32 {
-    let mut corners = [0.0f32; FLOATS];
-    let mut vertices = [0.0f32; FLOATS];
-    let mut normals = [0.0f32; FLOATS];
-    let mut uvs = [0.0f32; FLOATS];
-    let mut indices = [0u16; INDICES];
-    fill_corners(j, &mut corners);
-    lists::fill(1, &mut vertices);
-    lists::fill(2, &mut normals);
-    lists::fill(3, &mut uvs);
-    lists::fill_indices(&mut indices);
-    let answer = called(
-        j,
-        &corners,
-        &mut vertices,
-        &mut normals,
-        &mut uvs,
-        &mut indices,
-    );
+    let corners = corners_of(j);
+    let n = lists::at_most(j.corners, FLOATS);
+    let left = called(j, &corners[..n]);
+    let answer = left.answer;
     let found = answers::judged(answer, j.expected, 12, 48);
     if found != answers::RIGHT {
         return found;
     }
-    lists_judged(j, &vertices, &normals, &uvs, &indices)
+    lists_judged(j, left)
 }
 
 // The order is 1, 2, 6, 5. A plan asks for no face and no room.

@@ -7,6 +7,7 @@ use column::Side;
 use column::Subdivisions;
 use face::vec::Vec2;
 use face::vec::Vec3;
+use mesh_record::options::Table;
 use placement::placement::Choice3;
 use placement::placement::Placement;
 use placement::placement::Turn;
@@ -74,7 +75,7 @@ fn placement(words: &[u32; CELLS]) -> Placement {
     }
 }
 
-pub(crate) fn ends(words: &[u32; CELLS]) -> [f32; 24] {
+fn ends(words: &[u32; CELLS]) -> [f32; 24] {
     let mut out = [0.0; 24];
     for i in 0usize..24 {
         out[i] = record::float(words[i]);
@@ -82,7 +83,7 @@ pub(crate) fn ends(words: &[u32; CELLS]) -> [f32; 24] {
     out
 }
 
-pub(crate) fn corners(words: &[u32; CELLS]) -> [f32; 12] {
+fn corners(words: &[u32; CELLS]) -> [f32; 12] {
     let mut out = [0.0; 12];
     for i in 0usize..12 {
         out[i] = record::float(words[24 + i]);
@@ -90,7 +91,7 @@ pub(crate) fn corners(words: &[u32; CELLS]) -> [f32; 12] {
     out
 }
 
-pub(crate) fn job(words: &[u32; CELLS]) -> Column {
+fn job(words: &[u32; CELLS]) -> Column {
     let sides = [
         side(words[39]),
         side(words[40]),
@@ -115,5 +116,34 @@ pub(crate) fn job(words: &[u32; CELLS]) -> Column {
         bottom: bottom,
         position: position,
         placement: placement,
+    }
+}
+
+// A job with what belongs to it: the ends of its sides, the corners of its caps, its table of
+// options, what shuffles its faces, and how many faces, vertices and indices it should have.
+pub(crate) struct Case {
+    pub job: Column,
+    pub ends: [f32; 24],
+    pub corners: [f32; 12],
+    pub table: Table,
+    pub seed: u32,
+    pub faces: u32,
+    pub v: u32,
+    pub n: u32,
+}
+
+pub(crate) fn case_of(words: &[u32; CELLS], table: Table) -> Case {
+    let job = job(words);
+    let ends = ends(words);
+    let corners = corners(words);
+    Case {
+        job: job,
+        ends: ends,
+        corners: corners,
+        table: table,
+        seed: words[36],
+        faces: words[68],
+        v: words[69],
+        n: words[70],
     }
 }

@@ -2,9 +2,11 @@
 use mathlib.Core.Path.{_≡_}
 use mathlib.Core.Bool.{Bool}
 use mathlib.Core.List.{List}
-use Prim.Native.Nat.{ℕ, _-_}
+use Prim.Native.Nat.{ℕ, _-_, _%_}
 use lib.Ieee.{Float}
 use Rattle.arith.proofs.Determined.{determined}
+use Rattle.record.specs.declared.tally.Tally.{Tally}
+use Rattle.record.specs.Counting.{compared}
 use Rattle.face.specs.declared.triangle.Counts.{Counts}
 use Rattle.answer.specs.declared.answer.Answer.{Answer}
 use Rattle.known.specs.declared.lists.Lengths.{Lengths}
@@ -55,3 +57,6 @@ within-determined l v n t i r s p q = determined p q
 
 pub fits-determined : (l : Lengths) (v n t i : ℕ) (r s : Bool) → r ≡ allFit l v n t i → s ≡ allFit l v n t i → r ≡ s
 fits-determined l v n t i r s p q = determined p q
+
+pub counted-determined : (t : Tally) (k found : ℕ) (r s : Tally) → r ≡ compared t (k % 1000000) 0 0 found 0 → s ≡ compared t (k % 1000000) 0 0 found 0 → r ≡ s
+counted-determined t k found r s p q = determined p q

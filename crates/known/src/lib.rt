@@ -1,4 +1,5 @@
-// What the programs that try calls have in common: lists whose every place is known, and answers held
-// to what they should be.
+// What the programs that try calls have in common: lists whose every place is known, answers held to
+// what they should be, and the report.
 pub mod answers;
 pub mod lists;
+pub mod report;

@@ -4,20 +4,26 @@
 use known::answers;
 ghost use Prim.Native.Nat.{_+_, _*_, _≤_};
 
-// The cells of the longest line with its mark, and the most of them that are answers.
-pub(crate) const CELLS: usize = 168;
-
-pub(crate) const OUTPUTS: usize = 145;
+// The cells of the longest line.
+pub(crate) const CELLS: usize = 166;
 
 // The room of a list of floats and of a list of indices.
 pub(crate) const FLOATS: usize = 40;
 
-pub(crate) const INDICES: usize = 52;
+pub(crate) const INDICES: usize = 20;
 
 // What no mesh of the record has: the number past the counts.
-pub(crate) const KEPT: f32 = -123456.75;
+const KEPT: f32 = -123456.75;
 
-pub(crate) const KEPT_INDEX: u16 = 43981;
+const KEPT_INDEX: u16 = 43981;
+
+// The four lists of a mesh.
+pub(crate) struct Lists {
+    pub(crate) vertices: [f32; FLOATS],
+    pub(crate) normals: [f32; FLOATS],
+    pub(crate) uvs: [f32; FLOATS],
+    pub(crate) indices: [u16; INDICES],
+}
 
 // The lesser number. A count that is too great for its line differs there from the record's.
 pub(crate) fn at_most(n: u32, most: usize) -> usize
@@ -38,49 +44,89 @@ pub(crate) fn narrow(n: usize) -> u32 {
 }
 
 pub(crate) fn take(words: &[u32; CELLS], at: usize) -> f32
-    requires { ⌜ at + 1 ≤ 168 ⌝ }
+    requires { ⌜ at + 1 ≤ 166 ⌝ }
 {
     record::float(words[at])
 }
 
-pub(crate) fn take_list(words: &[u32; CELLS], at: usize, n: usize, out: &mut [f32; FLOATS])
-    requires { ⌜ (n ≤ 40) × (at + n ≤ 168) ⌝ }
+fn list_at(words: &[u32; CELLS], at: usize, n: usize) -> [f32; FLOATS]
+    requires { ⌜ (n ≤ 40) × (at + n ≤ 166) ⌝ }
 {
+    let mut out = [KEPT; FLOATS];
     for i in 0usize..n {
         out[i] = record::float(words[at + i]);
     }
+    out
 }
 
-pub(crate) fn take_indices(words: &[u32; CELLS], at: usize, n: usize, out: &mut [u16; INDICES])
-    requires { ⌜ (n ≤ 52) × (at + n ≤ 168) ⌝ }
+fn indices_at(words: &[u32; CELLS], at: usize, n: usize) -> [u16; INDICES]
+    requires { ⌜ (n ≤ 20) × (at + n ≤ 166) ⌝ }
 {
+    let mut out = [KEPT_INDEX; INDICES];
     for i in 0usize..n {
         out[i] = (words[at + i] % 65536) as u16;
     }
+    out
 }
 
-pub(crate) fn put_list(cells: &mut [u32; OUTPUTS], at: usize, n: usize, list: &[f32; FLOATS])
-    requires { ⌜ (n ≤ 40) × (at + n ≤ 145) ⌝ }
+// A mesh of v vertices and n indices from where a line has it with room for some vertices.
+pub(crate) fn lists_at(words: &[u32; CELLS], at: usize, room: usize, v: usize, n: usize) -> Lists
+    requires { ⌜ (v ≤ room) × (room ≤ 12) × (n ≤ 8) × (at + 8 * room ≤ 156) ⌝ }
 {
-    for i in 0usize..n {
-        cells[at + i] = record::pattern(list[i]);
+    let vertices = list_at(words, at + 2, 3 * v);
+    let normals = list_at(words, at + 2 + 3 * room, 3 * v);
+    let uvs = list_at(words, at + 2 + 6 * room, 2 * v);
+    let indices = indices_at(words, at + 2 + 8 * room, n);
+    Lists {
+        vertices: vertices,
+        normals: normals,
+        uvs: uvs,
+        indices: indices,
     }
+}
+
+// The cells with the first numbers of a list put at a place.
+fn with_list(cells: [u32; CELLS], at: usize, n: usize, list: [f32; FLOATS]) -> [u32; CELLS]
+    requires { ⌜ (n ≤ 40) × (at + n ≤ 166) ⌝ }
+{
+    let mut out = cells;
+    for i in 0usize..n {
+        out[at + i] = record::pattern(list[i]);
+    }
+    out
 }
 
 fn wide(index: u16) -> u32 {
     index as u32
 }
 
-pub(crate) fn put_indices(cells: &mut [u32; OUTPUTS], at: usize, n: usize, list: &[u16; INDICES])
-    requires { ⌜ (n ≤ 52) × (at + n ≤ 145) ⌝ }
+fn with_indices(cells: [u32; CELLS], at: usize, n: usize, list: [u16; INDICES]) -> [u32; CELLS]
+    requires { ⌜ (n ≤ 20) × (at + n ≤ 166) ⌝ }
 {
+    let mut out = cells;
     for i in 0usize..n {
-        cells[at + i] = wide(list[i]);
+        out[at + i] = wide(list[i]);
     }
+    out
+}
+
+// The four lists of a mesh where a line with room for some vertices has them, and 0 elsewhere.
+pub(crate) fn cells_of(lists: Lists, at: usize, room: usize, v: usize, n: usize) -> [u32; CELLS]
+    requires { ⌜ (v ≤ room) × (room ≤ 12) × (n ≤ 16) × (at + 8 * room ≤ 150) ⌝ }
+{
+    let none = [0u32; CELLS];
+    let vertices = lists.vertices;
+    let normals = lists.normals;
+    let uvs = lists.uvs;
+    let indices = lists.indices;
+    let first = with_list(none, at, 3 * v, vertices);
+    let second = with_list(first, at + 3 * room, 3 * v, normals);
+    let third = with_list(second, at + 6 * room, 2 * v, uvs);
+    with_indices(third, at + 8 * room, n, indices)
 }
 
 // Whether every place from one on is kept.
-fn list_kept(list: &[f32; FLOATS], from: usize) -> bool {
+fn is_kept(list: [f32; FLOATS], from: usize) -> bool {
     let mut i = from;
     while i < 40 {
         if record::pattern(list[i]) != record::pattern(KEPT) {
@@ -91,9 +137,9 @@ fn list_kept(list: &[f32; FLOATS], from: usize) -> bool {
     true
 }
 
-fn indices_kept(list: &[u16; INDICES], from: usize) -> bool {
+fn are_indices_kept(list: [u16; INDICES], from: usize) -> bool {
     let mut i = from;
-    while i < 52 {
+    while i < 20 {
         if list[i] != KEPT_INDEX {
             return false;
         }
@@ -102,68 +148,46 @@ fn indices_kept(list: &[u16; INDICES], from: usize) -> bool {
     true
 }
 
-// A mesh of v vertices and n indices from where a line has it with room for some vertices.
-pub(crate) fn take_mesh(
-    words: &[u32; CELLS],
-    at: usize,
-    room: usize,
-    v: usize,
-    n: usize,
-    vertices: &mut [f32; FLOATS],
-    normals: &mut [f32; FLOATS],
-    uvs: &mut [f32; FLOATS],
-    indices: &mut [u16; INDICES],
-)
-    requires { ⌜ (v ≤ room) × (room ≤ 12) × (n ≤ 8) × (at + 8 * room ≤ 158) ⌝ }
-{
-    take_list(words, at + 2, 3 * v, vertices);
-    take_list(words, at + 2 + 3 * room, 3 * v, normals);
-    take_list(words, at + 2 + 6 * room, 2 * v, uvs);
-    take_indices(words, at + 2 + 8 * room, n, indices);
-}
-
-// The four lists of a mesh, where a line with room for some vertices has them.
-pub(crate) fn put_mesh(
-    cells: &mut [u32; OUTPUTS],
-    at: usize,
-    room: usize,
-    v: usize,
-    n: usize,
-    vertices: &[f32; FLOATS],
-    normals: &[f32; FLOATS],
-    uvs: &[f32; FLOATS],
-    indices: &[u16; INDICES],
-)
-    requires { ⌜ (v ≤ room) × (room ≤ 12) × (n ≤ 48) × (at + 8 * room + n ≤ 145) ⌝ }
-{
-    put_list(cells, at, 3 * v, vertices);
-    put_list(cells, at + 3 * room, 3 * v, normals);
-    put_list(cells, at + 6 * room, 2 * v, uvs);
-    put_indices(cells, at + 8 * room, n, indices);
-}
-
 // Which of the four lists has changed past the counts.
-pub(crate) fn changed(
-    v: usize,
-    n: usize,
-    vertices: &[f32; FLOATS],
-    normals: &[f32; FLOATS],
-    uvs: &[f32; FLOATS],
-    indices: &[u16; INDICES],
-) -> u32
+pub(crate) fn changed(lists: Lists, v: usize, n: usize) -> u32
     requires { ⌜ v ≤ 12 ⌝ }
 {
-    if !list_kept(vertices, 3 * v) {
+    let vertices = lists.vertices;
+    if !is_kept(vertices, 3 * v) {
         return answers::VERTICES;
     }
-    if !list_kept(normals, 3 * v) {
+    let normals = lists.normals;
+    if !is_kept(normals, 3 * v) {
         return answers::NORMALS;
     }
-    if !list_kept(uvs, 2 * v) {
+    let uvs = lists.uvs;
+    if !is_kept(uvs, 2 * v) {
         return answers::UVS;
     }
-    if !indices_kept(indices, n) {
+    let indices = lists.indices;
+    if !are_indices_kept(indices, n) {
         return answers::INDICES;
     }
     answers::RIGHT
+}
+
+// The first of the cells from one place to another at which what was made and what the record has
+// differ, and the end where all are the same.
+pub(crate) fn first_difference(
+    made: &[u32; CELLS],
+    words: &[u32; CELLS],
+    from: usize,
+    end: usize,
+) -> usize
+    requires { ⌜ (from ≤ end) × (end ≤ 166) ⌝ }
+    ensures { λ r. ⌜ r ≤ end ⌝ }
+{
+    let mut i = from;
+    while i < end {
+        if made[i] != words[i] {
+            return i;
+        }
+        i += 1;
+    }
+    end
 }

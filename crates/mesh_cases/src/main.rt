@@ -1,62 +1,46 @@
-// Compares what `mesh`, `merge` and `cheap_column` make with a record of hexx's own answers, bit by bit,
-// and writes how many differ.
+// Compares what `mesh` and `merge` make with a record of hexx's own answers, bit by bit, and writes
+// how many differ.
 mod cells;
 mod replay;
-mod report;
 
 use cells::CELLS;
-use cells::OUTPUTS;
+use mesh_record::report;
 use record::tally;
 use record::tally::Tally;
+use replay::Made;
 use replay::Part;
-ghost use Prim.Native.Nat.{_+_, _≤_};
+ghost use Prim.Native.Nat.{_≤_};
+ghost use lib.ListN.{length};
 
-// The first of some cells at which what was made and what the record has differ, and their number
-// where all are the same.
-fn first_difference(made: &[u32; OUTPUTS], words: &[u32; CELLS], from: usize, n: usize) -> usize
-    requires { ⌜ (n ≤ 145) × (from + n ≤ 168) ⌝ }
-    ensures { λ r. ⌜ r ≤ n ⌝ }
-{
-    let mut i = 0;
-    while i < n {
-        if made[i] != words[from + i] {
-            return i;
-        }
-        i += 1;
-    }
-    n
-}
-
-// The tally with one line compared: its cells from `from` on are what `made` should have.
-fn with_cells(
+// The tally with one line compared: its answers, and the mark, which should be 0, behind them.
+fn with_made(
     t: Tally,
     number: u32,
-    made: &[u32; OUTPUTS],
+    made: Made,
     words: &[u32; CELLS],
     from: usize,
-    n: usize,
+    end: usize,
 ) -> Tally
-    requires { ⌜ (n ≤ 145) × (from + n ≤ 168) ⌝ }
+    requires { ⌜ (from ≤ end) × (end ≤ 166) ⌝ }
 {
-    let i = first_difference(made, words, from, n);
-    if i < n {
-        return tally::with_case(t, number, i as u32, 0, made[i], words[from + i]);
+    let cells = made.cells;
+    let i = cells::first_difference(&cells, words, from, end);
+    if i < end {
+        return tally::with_case(t, number, 0, i as u32, cells[i], words[i]);
     }
-    tally::with_same(t)
+    tally::with_case(t, number, 0, end as u32, made.mark, 0)
 }
 
 fn with_line(t: Tally, part: Part, number: u32) -> Tally {
     let mut words = [0u32; CELLS];
     let outputs = replay::outputs_of(part);
     let from = outputs.from;
-    let n = outputs.n;
-    let end = from + n;
-    if record::line(&mut words[..end]) {
-        let made = replay::answers(part, &words);
-        with_cells(t, number, &made, &words, from, n + 1)
-    } else {
-        tally::no_record()
+    let end = outputs.end;
+    if !record::line(&mut words[..end]) {
+        return tally::no_record();
     }
+    let made = replay::answers(part, &words);
+    with_made(t, number, made, &words, from, end)
 }
 
 fn lines(part: Part, n: u32) -> Tally {
@@ -67,6 +51,26 @@ fn lines(part: Part, n: u32) -> Tally {
         number += 1;
     }
     out
+}
+
+// How much of a part's name is its word and the space behind it.
+fn word_of(name: &[u8]) -> usize
+    ensures { λ r. ⌜ r ≤ length (now (name .entry)) ⌝ }
+{
+    let mut i = 0;
+    while i < name.len() {
+        i += 1;
+        if name[i - 1] == b' ' {
+            return i;
+        }
+    }
+    i
+}
+
+fn print(name: &[u8], t: Tally) {
+    let n = word_of(name);
+    report::print_first(&name[..n], t);
+    report::print_counts(&name[..n], t);
 }
 
 // Compares a part, tells what it found, and answers 1; or 0 where the part does not read.
@@ -81,8 +85,7 @@ fn compared(part: Part, name: &[u8; 9]) -> u32
     if !t.reads {
         return 0;
     }
-    report::print_first(name, t);
-    report::print_counts(name, t);
+    print(name, t);
     1
 }
 
@@ -93,9 +96,8 @@ fn main() {
     let means = compared(Part::Means, b"means    ");
     let uvmeans = compared(Part::UvMeans, b"uvmeans  ");
     let merges = compared(Part::Merges, b"merges   ");
-    let columns = compared(Part::Columns, b"columns  ");
-    let read = scales + offsets + uvscales + means + uvmeans + merges + columns;
-    if !record::ended(read == 7) {
+    let read = scales + offsets + uvscales + means + uvmeans + merges;
+    if !record::ended(read == 6) {
         report::refuse();
     }
 }

@@ -1,19 +1,14 @@
-// What is made of a line of each part, as the cells that the record should have for it and a mark:
-// 0, or what is not as it should be of the answer, of the places past its counts, or of another call.
+// What is made of a line of each part: the cells that the record should have for it, and a mark,
+// which is 0, or what is not as it should be of the answer or of the places past its counts.
 use crate::cells;
 use crate::cells::CELLS;
-use crate::cells::FLOATS;
-use crate::cells::INDICES;
-use crate::cells::KEPT;
-use crate::cells::KEPT_INDEX;
-use crate::cells::OUTPUTS;
+use crate::cells::Lists;
 use answer::answer::Answer;
-use cheap_column::CheapColumn;
 use face::triangle::Counts;
 use face::vec::Vec2;
 use face::vec::Vec3;
 use known::answers;
-ghost use Prim.Native.Nat.{_+_, _≤_};
+ghost use Prim.Native.Nat.{_+_, _*_, _≤_};
 
 pub(crate) enum Part {
     Scales,
@@ -22,60 +17,61 @@ pub(crate) enum Part {
     Means,
     UvMeans,
     Merges,
-    Columns,
 }
 
-// The marks of a plan and of a face call that disagree with the whole build.
-const PLAN: u32 = 9;
-
-const FACE: u32 = 10;
-
-// Where the answers of a line start, and how many cells they are.
+// Where the answers of a line start, and where it ends.
 pub(crate) struct Outputs {
     pub(crate) from: usize,
-    pub(crate) n: usize,
+    pub(crate) end: usize,
 }
 
-fn from_to(inputs: usize, outputs: usize) -> Outputs
-    requires { ⌜ (outputs ≤ 144) × (inputs + outputs ≤ 167) ⌝ }
-    ensures { λ r. ⌜ (r .n ≤ 144) × (r .from + r .n ≤ 167) ⌝ }
+fn from_to(from: usize, end: usize) -> Outputs
+    requires { ⌜ (from ≤ end) × (end ≤ 166) ⌝ }
+    ensures { λ r. ⌜ (r .from ≤ r .end) × (r .end ≤ 166) ⌝ }
 {
     Outputs {
-        from: inputs,
-        n: outputs,
+        from: from,
+        end: end,
     }
 }
 
 pub(crate) fn outputs_of(part: Part) -> Outputs
-    ensures { λ r. ⌜ (r .n ≤ 144) × (r .from + r .n ≤ 167) ⌝ }
+    ensures { λ r. ⌜ (r .from ≤ r .end) × (r .end ≤ 166) ⌝ }
 {
     match part {
-        Part::Scales => from_to(45, 42),
-        Part::Offsets => from_to(45, 42),
-        Part::UvScales => from_to(44, 42),
-        Part::Means => from_to(106, 3),
-        Part::UvMeans => from_to(106, 2),
-        Part::Merges => from_to(84, 82),
-        Part::Columns => from_to(15, 144),
+        Part::Scales => from_to(45, 87),
+        Part::Offsets => from_to(45, 87),
+        Part::UvScales => from_to(44, 86),
+        Part::Means => from_to(106, 109),
+        Part::UvMeans => from_to(106, 108),
+        Part::Merges => from_to(84, 166),
     }
 }
 
-fn take2(words: &[u32; CELLS], at: usize) -> Vec2
-    requires { ⌜ at + 2 ≤ 168 ⌝ }
-{
+// The answers of a line at their places in it, 0 elsewhere, and the mark.
+pub(crate) struct Made {
+    pub(crate) cells: [u32; CELLS],
+    pub(crate) mark: u32,
+}
+
+// An answer and what its call has left in the four lists.
+struct Left {
+    answer: Answer,
+    lists: Lists,
+}
+
+fn take2(words: &[u32; CELLS]) -> Vec2 {
     Vec2 {
-        x: cells::take(words, at),
-        y: cells::take(words, at + 1),
+        x: cells::take(words, 0),
+        y: cells::take(words, 1),
     }
 }
 
-fn take3(words: &[u32; CELLS], at: usize) -> Vec3
-    requires { ⌜ at + 3 ≤ 168 ⌝ }
-{
+fn take3(words: &[u32; CELLS]) -> Vec3 {
     Vec3 {
-        x: cells::take(words, at),
-        y: cells::take(words, at + 1),
-        z: cells::take(words, at + 2),
+        x: cells::take(words, 0),
+        y: cells::take(words, 1),
+        z: cells::take(words, 2),
     }
 }
 
@@ -84,373 +80,199 @@ fn held(answer: Answer, v: u32, n: u32) -> u32 {
     answers::judged(answer, 0, v as usize, n as usize)
 }
 
-// What is not as it should be of an answer with so many vertices and indices, and of the lists past them.
-fn mark(
-    answer: Answer,
-    v: u32,
-    n: u32,
-    vertices: &[f32; FLOATS],
-    normals: &[f32; FLOATS],
-    uvs: &[f32; FLOATS],
-    indices: &[u16; INDICES],
-) -> u32 {
+// What is not as it should be of such an answer, and of the lists past its counts.
+fn mark(answer: Answer, lists: Lists, v: u32, n: u32) -> u32 {
     let judged = held(answer, v, n);
     if judged != answers::RIGHT {
         return judged;
     }
-    cells::changed(
-        cells::at_most(v, 12),
-        n as usize,
-        vertices,
-        normals,
-        uvs,
-        indices,
-    )
+    cells::changed(lists, cells::at_most(v, 12), n as usize)
 }
 
-// The cells of a mesh that should have these counts, in a line with room for more, and its mark.
-fn mesh_cells(
-    answer: Answer,
-    expected: [u32; 2],
-    room: usize,
-    most: usize,
-    vertices: &[f32; FLOATS],
-    normals: &[f32; FLOATS],
-    uvs: &[f32; FLOATS],
-    indices: &[u16; INDICES],
-) -> [u32; OUTPUTS]
-    requires { ⌜ (room ≤ 8) × (most ≤ 16) ⌝ }
+// The cells of a mesh from a place of a line with room for more on: the counts of its answer and its
+// four lists.
+fn mesh_cells(answer: Answer, lists: Lists, at: usize, room: usize, most: usize) -> [u32; CELLS]
+    requires { ⌜ (room ≤ 8) × (most ≤ 16) × (at + 8 * room ≤ 148) ⌝ }
 {
-    let mut out = [0u32; OUTPUTS];
     let counts = answer::answer::counts_of(answer);
-    out[0] = cells::narrow(counts.vertices.0);
-    out[1] = cells::narrow(counts.indices.0);
-    let a = cells::at_most(out[0], room);
-    let b = cells::at_most(out[1], most);
-    cells::put_mesh(&mut out, 2, room, a, b, vertices, normals, uvs, indices);
-    out[2 + 8 * room + most] = mark(
-        answer,
-        expected[0],
-        expected[1],
-        vertices,
-        normals,
-        uvs,
-        indices,
-    );
+    let v = cells::narrow(counts.vertices.0);
+    let n = cells::narrow(counts.indices.0);
+    let a = cells::at_most(v, room);
+    let b = cells::at_most(n, most);
+    let mut out = cells::cells_of(lists, at + 2, room, a, b);
+    out[at] = v;
+    out[at + 1] = n;
     out
 }
 
-// Scaled, moved, or with its texture scaled.
-fn moved(
-    part: Part,
-    words: &[u32; CELLS],
-    counts: Counts,
-    vertices: &mut [f32; FLOATS],
-    normals: &[f32; FLOATS],
-    uvs: &mut [f32; FLOATS],
-    indices: &[u16; INDICES],
-) -> Answer {
+// The mesh that a call has left, held to the counts that the record has at its place.
+fn mesh_made(left: Left, words: &[u32; CELLS], at: usize, room: usize, most: usize) -> Made
+    requires { ⌜ (room ≤ 8) × (most ≤ 16) × (at + 8 * room ≤ 148) ⌝ }
+{
+    let answer = left.answer;
+    let lists = left.lists;
+    Made {
+        cells: mesh_cells(answer, lists, at, room, most),
+        mark: mark(answer, lists, words[at], words[at + 1]),
+    }
+}
+
+// Scaled or moved.
+fn moved(is_scale: bool, by: Vec3, counts: Counts, lists: Lists) -> Left {
+    let mut vertices = lists.vertices;
+    let normals = lists.normals;
+    let uvs = lists.uvs;
+    let indices = lists.indices;
+    let answer = if is_scale {
+        mesh::stored::scale(counts, by, &mut vertices, &normals, &uvs, &indices)
+    } else {
+        mesh::stored::offset(counts, by, &mut vertices, &normals, &uvs, &indices)
+    };
+    let left = Lists {
+        vertices: vertices,
+        normals: normals,
+        uvs: uvs,
+        indices: indices,
+    };
+    Left {
+        answer: answer,
+        lists: left,
+    }
+}
+
+fn texture_scaled(by: Vec2, counts: Counts, lists: Lists) -> Left {
+    let vertices = lists.vertices;
+    let normals = lists.normals;
+    let mut uvs = lists.uvs;
+    let indices = lists.indices;
+    let answer = mesh::stored::texture_scale(counts, by, &vertices, &normals, &mut uvs, &indices);
+    let left = Lists {
+        vertices: vertices,
+        normals: normals,
+        uvs: uvs,
+        indices: indices,
+    };
+    Left {
+        answer: answer,
+        lists: left,
+    }
+}
+
+fn changed_by(part: Part, words: &[u32; CELLS], counts: Counts, lists: Lists) -> Left {
     match part {
-        Part::Scales => {
-            mesh::stored::scale(counts, take3(words, 0), vertices, normals, uvs, indices)
-        }
-        Part::Offsets => {
-            mesh::stored::offset(counts, take3(words, 0), vertices, normals, uvs, indices)
-        }
-        _ => mesh::stored::texture_scale(counts, take2(words, 0), vertices, normals, uvs, indices),
+        Part::Scales => moved(true, take3(words), counts, lists),
+        Part::Offsets => moved(false, take3(words), counts, lists),
+        _ => texture_scaled(take2(words), counts, lists),
     }
 }
 
 // A line that has one mesh, at a place behind the parameter, and what it becomes.
-fn move_line(part: Part, words: &[u32; CELLS], at: usize) -> [u32; OUTPUTS]
+fn change_line(part: Part, words: &[u32; CELLS], at: usize) -> Made
     requires { ⌜ at ≤ 3 ⌝ }
 {
-    let mut vertices = [KEPT; FLOATS];
-    let mut normals = [KEPT; FLOATS];
-    let mut uvs = [KEPT; FLOATS];
-    let mut indices = [KEPT_INDEX; INDICES];
     let v = cells::at_most(words[at], 4);
     let n = cells::at_most(words[at + 1], 8);
-    cells::take_mesh(
-        words,
-        at,
-        4,
-        v,
-        n,
-        &mut vertices,
-        &mut normals,
-        &mut uvs,
-        &mut indices,
-    );
-    let counts = answers::counts(v, n);
-    let answer = moved(
-        part,
-        words,
-        counts,
-        &mut vertices,
-        &normals,
-        &mut uvs,
-        &indices,
-    );
-    let expected = [words[at], words[at + 1]];
-    mesh_cells(answer, expected, 4, 8, &vertices, &normals, &uvs, &indices)
+    let lists = cells::lists_at(words, at, 4, v, n);
+    let left = changed_by(part, words, answers::counts(v, n), lists);
+    mesh_made(left, words, at + 42, 4, 8)
 }
 
-// The centroid of a mesh and the mark behind it.
-fn mean_cells(
-    words: &[u32; CELLS],
-    counts: Counts,
-    vertices: &[f32; FLOATS],
-    normals: &[f32; FLOATS],
-    uvs: &[f32; FLOATS],
-    indices: &[u16; INDICES],
-) -> [u32; OUTPUTS] {
-    let made = mesh::stored::centroid(counts, vertices, normals, uvs, indices);
-    let mut out = [0u32; OUTPUTS];
+// A centroid where a line has it; the answer is held to the counts that the line starts with.
+fn mean_made(answer: Answer, x: f32, y: f32, z: f32, words: &[u32; CELLS]) -> Made {
+    let mut out = [0u32; CELLS];
+    out[106] = record::pattern(x);
+    out[107] = record::pattern(y);
+    out[108] = record::pattern(z);
+    Made {
+        cells: out,
+        mark: held(answer, words[0], words[1]),
+    }
+}
+
+fn mean(words: &[u32; CELLS], counts: Counts, lists: Lists) -> Made {
+    let vertices = lists.vertices;
+    let normals = lists.normals;
+    let uvs = lists.uvs;
+    let indices = lists.indices;
+    let made = mesh::stored::centroid(counts, &vertices, &normals, &uvs, &indices);
     let answer = made.answer;
     let centroid = made.centroid;
-    out[0] = record::pattern(centroid.x);
-    out[1] = record::pattern(centroid.y);
-    out[2] = record::pattern(centroid.z);
-    out[3] = held(answer, words[0], words[1]);
-    out
+    mean_made(answer, centroid.x, centroid.y, centroid.z, words)
 }
 
-fn uv_mean_cells(
-    words: &[u32; CELLS],
-    counts: Counts,
-    vertices: &[f32; FLOATS],
-    normals: &[f32; FLOATS],
-    uvs: &[f32; FLOATS],
-    indices: &[u16; INDICES],
-) -> [u32; OUTPUTS] {
-    let made = mesh::stored::uv_centroid(counts, vertices, normals, uvs, indices);
-    let mut out = [0u32; OUTPUTS];
+fn uv_mean(words: &[u32; CELLS], counts: Counts, lists: Lists) -> Made {
+    let vertices = lists.vertices;
+    let normals = lists.normals;
+    let uvs = lists.uvs;
+    let indices = lists.indices;
+    let made = mesh::stored::uv_centroid(counts, &vertices, &normals, &uvs, &indices);
     let answer = made.answer;
     let centroid = made.centroid;
-    out[0] = record::pattern(centroid.x);
-    out[1] = record::pattern(centroid.y);
-    out[2] = held(answer, words[0], words[1]);
-    out
+    mean_made(answer, centroid.x, centroid.y, 0.0, words)
 }
 
-fn mean(words: &[u32; CELLS], of_uvs: bool) -> [u32; OUTPUTS] {
-    let mut vertices = [KEPT; FLOATS];
-    let mut normals = [KEPT; FLOATS];
-    let mut uvs = [KEPT; FLOATS];
-    let mut indices = [KEPT_INDEX; INDICES];
+fn mean_line(part: Part, words: &[u32; CELLS]) -> Made {
     let v = cells::at_most(words[0], 12);
     let n = cells::at_most(words[1], 8);
-    cells::take_mesh(
-        words,
-        0,
-        12,
-        v,
-        n,
-        &mut vertices,
-        &mut normals,
-        &mut uvs,
-        &mut indices,
-    );
+    let lists = cells::lists_at(words, 0, 12, v, n);
     let counts = answers::counts(v, n);
-    if of_uvs {
-        return uv_mean_cells(words, counts, &vertices, &normals, &uvs, &indices);
+    match part {
+        Part::Means => mean(words, counts, lists),
+        _ => uv_mean(words, counts, lists),
     }
-    mean_cells(words, counts, &vertices, &normals, &uvs, &indices)
 }
 
-fn merge_lists(
-    source: Counts,
-    from_vertices: &[f32; FLOATS],
-    from_normals: &[f32; FLOATS],
-    from_uvs: &[f32; FLOATS],
-    from_indices: &[u16; INDICES],
-    target: Counts,
-    vertices: &mut [f32; FLOATS],
-    normals: &mut [f32; FLOATS],
-    uvs: &mut [f32; FLOATS],
-    indices: &mut [u16; INDICES],
-) -> Answer {
-    merge::merge(
+fn merged(source: Counts, from: Lists, target: Counts, onto: Lists) -> Left {
+    let from_vertices = from.vertices;
+    let from_normals = from.normals;
+    let from_uvs = from.uvs;
+    let from_indices = from.indices;
+    let mut vertices = onto.vertices;
+    let mut normals = onto.normals;
+    let mut uvs = onto.uvs;
+    let mut indices = onto.indices;
+    let answer = merge::merge(
         source,
-        from_vertices,
-        from_normals,
-        from_uvs,
-        from_indices,
+        &from_vertices,
+        &from_normals,
+        &from_uvs,
+        &from_indices,
         target,
-        vertices,
-        normals,
-        uvs,
-        indices,
-    )
-}
-
-// Merges a source into the target of a line.
-fn merge_onto(
-    words: &[u32; CELLS],
-    source: Counts,
-    from_vertices: &[f32; FLOATS],
-    from_normals: &[f32; FLOATS],
-    from_uvs: &[f32; FLOATS],
-    from_indices: &[u16; INDICES],
-) -> [u32; OUTPUTS] {
-    let mut vertices = [KEPT; FLOATS];
-    let mut normals = [KEPT; FLOATS];
-    let mut uvs = [KEPT; FLOATS];
-    let mut indices = [KEPT_INDEX; INDICES];
-    let v = cells::at_most(words[42], 4);
-    let n = cells::at_most(words[43], 8);
-    cells::take_mesh(
-        words,
-        42,
-        4,
-        v,
-        n,
         &mut vertices,
         &mut normals,
         &mut uvs,
         &mut indices,
     );
-    let answer = merge_lists(
-        source,
-        from_vertices,
-        from_normals,
-        from_uvs,
-        from_indices,
-        answers::counts(v, n),
-        &mut vertices,
-        &mut normals,
-        &mut uvs,
-        &mut indices,
-    );
-    let expected = [words[84], words[85]];
-    mesh_cells(answer, expected, 8, 16, &vertices, &normals, &uvs, &indices)
+    let left = Lists {
+        vertices: vertices,
+        normals: normals,
+        uvs: uvs,
+        indices: indices,
+    };
+    Left {
+        answer: answer,
+        lists: left,
+    }
 }
 
-fn merge(words: &[u32; CELLS]) -> [u32; OUTPUTS] {
-    let mut vertices = [KEPT; FLOATS];
-    let mut normals = [KEPT; FLOATS];
-    let mut uvs = [KEPT; FLOATS];
-    let mut indices = [KEPT_INDEX; INDICES];
+fn merge_line(words: &[u32; CELLS]) -> Made {
     let v = cells::at_most(words[0], 4);
     let n = cells::at_most(words[1], 8);
-    cells::take_mesh(
-        words,
-        0,
-        4,
-        v,
-        n,
-        &mut vertices,
-        &mut normals,
-        &mut uvs,
-        &mut indices,
-    );
-    let source = answers::counts(v, n);
-    merge_onto(words, source, &vertices, &normals, &uvs, &indices)
+    let a = cells::at_most(words[42], 4);
+    let b = cells::at_most(words[43], 8);
+    let from = cells::lists_at(words, 0, 4, v, n);
+    let onto = cells::lists_at(words, 42, 4, a, b);
+    let left = merged(answers::counts(v, n), from, answers::counts(a, b), onto);
+    mesh_made(left, words, 84, 8, 16)
 }
 
-fn job(words: &[u32; CELLS]) -> CheapColumn {
-    CheapColumn {
-        centre: take2(words, 12),
-        height: cells::take(words, 14),
-    }
-}
-
-// The whole build, or the call of its one face.
-fn built(
-    single: bool,
-    job: CheapColumn,
-    corners: &[f32; 12],
-    vertices: &mut [f32; FLOATS],
-    normals: &mut [f32; FLOATS],
-    uvs: &mut [f32; FLOATS],
-    indices: &mut [u16; INDICES],
-) -> Answer {
-    if single {
-        return cheap_column::face(job, corners, 0, vertices, normals, uvs, indices);
-    }
-    cheap_column::build(job, corners, vertices, normals, uvs, indices)
-}
-
-fn column(words: &[u32; CELLS], corners: &[f32; 12], single: bool) -> [u32; OUTPUTS] {
-    let mut vertices = [KEPT; FLOATS];
-    let mut normals = [KEPT; FLOATS];
-    let mut uvs = [KEPT; FLOATS];
-    let mut indices = [KEPT_INDEX; INDICES];
-    let answer = built(
-        single,
-        job(words),
-        corners,
-        &mut vertices,
-        &mut normals,
-        &mut uvs,
-        &mut indices,
-    );
-    let mut out = [0u32; OUTPUTS];
-    cells::put_mesh(&mut out, 0, 12, 12, 48, &vertices, &normals, &uvs, &indices);
-    out[144] = mark(answer, 12, 48, &vertices, &normals, &uvs, &indices);
-    out
-}
-
-fn same_cells(a: &[u32; OUTPUTS], b: &[u32; OUTPUTS]) -> bool {
-    let mut i = 0;
-    while i < 145 {
-        if a[i] != b[i] {
-            return false;
-        }
-        i += 1;
-    }
-    true
-}
-
-// The mark of a whole build, or what disagrees with it.
-fn column_mark(
-    words: &[u32; CELLS],
-    corners: &[f32; 12],
-    whole: &[u32; OUTPUTS],
-    single: &[u32; OUTPUTS],
-) -> u32 {
-    let plan = cheap_column::plan(job(words), corners);
-    if answers::judged(plan, 0, 12, 48) != answers::RIGHT {
-        return PLAN;
-    }
-    if !same_cells(whole, single) {
-        return FACE;
-    }
-    whole[144]
-}
-
-fn column_line(words: &[u32; CELLS]) -> [u32; OUTPUTS] {
-    let corners = [
-        cells::take(words, 0),
-        cells::take(words, 1),
-        cells::take(words, 2),
-        cells::take(words, 3),
-        cells::take(words, 4),
-        cells::take(words, 5),
-        cells::take(words, 6),
-        cells::take(words, 7),
-        cells::take(words, 8),
-        cells::take(words, 9),
-        cells::take(words, 10),
-        cells::take(words, 11),
-    ];
-    let mut whole = column(words, &corners, false);
-    let single = column(words, &corners, true);
-    let found = column_mark(words, &corners, &whole, &single);
-    whole[144] = found;
-    whole
-}
-
-// The cells of a line's answers and its mark; those past them are 0 and not compared.
-pub(crate) fn answers(part: Part, words: &[u32; CELLS]) -> [u32; OUTPUTS] {
+pub(crate) fn answers(part: Part, words: &[u32; CELLS]) -> Made {
     match part {
-        Part::Scales => move_line(part, words, 3),
-        Part::Offsets => move_line(part, words, 3),
-        Part::UvScales => move_line(part, words, 2),
-        Part::Means => mean(words, false),
-        Part::UvMeans => mean(words, true),
-        Part::Merges => merge(words),
-        Part::Columns => column_line(words),
+        Part::Scales => change_line(part, words, 3),
+        Part::Offsets => change_line(part, words, 3),
+        Part::UvScales => change_line(part, words, 2),
+        Part::Means => mean_line(part, words),
+        Part::UvMeans => mean_line(part, words),
+        Part::Merges => merge_line(words),
     }
 }

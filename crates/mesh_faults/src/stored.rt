@@ -34,66 +34,23 @@ fn without_value(answer: Answer) -> Outcome {
     }
 }
 
-fn texture_scaled(c: Stored, moving: &mut [f32], still: &[f32], indices: &[u16]) -> Answer {
-    let counts = c.counts;
-    let by = Vec2 {
-        x: c.by.x,
-        y: c.by.y,
-    };
-    let a = lists::at_most(c.lent.vertices, still.len());
-    let b = lists::at_most(c.lent.normals, still.len());
-    let d = lists::at_most(c.lent.uvs, moving.len());
-    let e = lists::at_most(c.lent.indices, indices.len());
-    mesh::stored::texture_scale(
-        counts,
-        by,
-        &still[..a],
-        &still[..b],
-        &mut moving[..d],
-        &indices[..e],
-    )
-}
-
-fn moved(c: Stored, moving: &mut [f32], still: &[f32], indices: &[u16]) -> Answer {
+// The calls that work on the vertices.
+fn vertices_called(
+    c: Stored,
+    vertices: &mut [f32],
+    normals: &[f32],
+    uvs: &[f32],
+    indices: &[u16],
+) -> Outcome {
     let counts = c.counts;
     let by = c.by;
-    let a = lists::at_most(c.lent.vertices, moving.len());
-    let b = lists::at_most(c.lent.normals, still.len());
-    let d = lists::at_most(c.lent.uvs, still.len());
-    let e = lists::at_most(c.lent.indices, indices.len());
     if c.call == 0 {
-        return mesh::stored::scale(
-            counts,
-            by,
-            &mut moving[..a],
-            &still[..b],
-            &still[..d],
-            &indices[..e],
-        );
+        return without_value(mesh::stored::scale(counts, by, vertices, normals, uvs, indices));
     }
-    mesh::stored::offset(
-        counts,
-        by,
-        &mut moving[..a],
-        &still[..b],
-        &still[..d],
-        &indices[..e],
-    )
-}
-
-fn centroid(c: Stored, moving: &[f32], still: &[f32], indices: &[u16]) -> Outcome {
-    let counts = c.counts;
-    let a = lists::at_most(c.lent.vertices, moving.len());
-    let b = lists::at_most(c.lent.normals, still.len());
-    let d = lists::at_most(c.lent.uvs, still.len());
-    let e = lists::at_most(c.lent.indices, indices.len());
-    let made = mesh::stored::centroid(
-        counts,
-        &moving[..a],
-        &still[..b],
-        &still[..d],
-        &indices[..e],
-    );
+    if c.call == 1 {
+        return without_value(mesh::stored::offset(counts, by, vertices, normals, uvs, indices));
+    }
+    let made = mesh::stored::centroid(counts, vertices, normals, uvs, indices);
     let answer = made.answer;
     let value = made.centroid;
     Outcome {
@@ -102,19 +59,39 @@ fn centroid(c: Stored, moving: &[f32], still: &[f32], indices: &[u16]) -> Outcom
     }
 }
 
-fn uv_centroid(c: Stored, moving: &[f32], still: &[f32], indices: &[u16]) -> Outcome {
-    let counts = c.counts;
-    let a = lists::at_most(c.lent.vertices, still.len());
+// The same, with as much of each list as the case lends.
+fn on_vertices(c: Stored, moving: &mut [f32], still: &[f32], indices: &[u16]) -> Outcome {
+    let a = lists::at_most(c.lent.vertices, moving.len());
     let b = lists::at_most(c.lent.normals, still.len());
-    let d = lists::at_most(c.lent.uvs, moving.len());
+    let d = lists::at_most(c.lent.uvs, still.len());
     let e = lists::at_most(c.lent.indices, indices.len());
-    let made = mesh::stored::uv_centroid(
-        counts,
-        &still[..a],
-        &still[..b],
-        &moving[..d],
-        &indices[..e],
-    );
+    vertices_called(c, &mut moving[..a], &still[..b], &still[..d], &indices[..e])
+}
+
+// The calls that work on the uvs.
+fn uvs_called(
+    c: Stored,
+    vertices: &[f32],
+    normals: &[f32],
+    uvs: &mut [f32],
+    indices: &[u16],
+) -> Outcome {
+    let counts = c.counts;
+    if c.call == 2 {
+        let by = Vec2 {
+            x: c.by.x,
+            y: c.by.y,
+        };
+        return without_value(mesh::stored::texture_scale(
+            counts,
+            by,
+            vertices,
+            normals,
+            uvs,
+            indices,
+        ));
+    }
+    let made = mesh::stored::uv_centroid(counts, vertices, normals, uvs, indices);
     let answer = made.answer;
     let value = made.centroid;
     Outcome {
@@ -127,17 +104,22 @@ fn uv_centroid(c: Stored, moving: &[f32], still: &[f32], indices: &[u16]) -> Out
     }
 }
 
+fn on_uvs(c: Stored, moving: &mut [f32], still: &[f32], indices: &[u16]) -> Outcome {
+    let a = lists::at_most(c.lent.vertices, still.len());
+    let b = lists::at_most(c.lent.normals, still.len());
+    let d = lists::at_most(c.lent.uvs, moving.len());
+    let e = lists::at_most(c.lent.indices, indices.len());
+    uvs_called(c, &still[..a], &still[..b], &mut moving[..d], &indices[..e])
+}
+
 fn called(c: Stored, moving: &mut [f32], still: &[f32], indices: &[u16]) -> Outcome {
-    if c.call < 2 {
-        return without_value(moved(c, moving, still, indices));
-    }
     if c.call == 2 {
-        return without_value(texture_scaled(c, moving, still, indices));
+        return on_uvs(c, moving, still, indices);
     }
-    if c.call == 3 {
-        return centroid(c, moving, still, indices);
+    if c.call == 4 {
+        return on_uvs(c, moving, still, indices);
     }
-    uv_centroid(c, moving, still, indices)
+    on_vertices(c, moving, still, indices)
 }
 
 // A part of a vertex, or of a uv, of list 1.
@@ -239,15 +221,8 @@ fn list_right(c: Stored, moving: &[f32]) -> bool {
     true
 }
 
-// What a call finds first that is not as it should be.
-pub(crate) fn judged(c: Stored, moving: &mut [f32], still: &[f32], indices: &[u16]) -> u32 {
-    let lent = c.lent;
-    let room = lists::at_most(moving.len(), still.len());
-    if !lists::fits(lent, room, room, room, indices.len()) {
-        return answers::TOO_LONG;
-    }
-    lists::fill(1, moving);
-    let outcome = called(c, moving, still, indices);
+// What the outcome of a call has first that is not as it should be.
+fn outcome_judged(c: Stored, outcome: Outcome) -> u32 {
     let answer = outcome.answer;
     let value = outcome.value;
     let counts = c.counts;
@@ -257,6 +232,26 @@ pub(crate) fn judged(c: Stored, moving: &mut [f32], still: &[f32], indices: &[u1
     }
     if !value_right(c, value) {
         return answers::VALUE;
+    }
+    answers::RIGHT
+}
+
+// Whether a case lends more than the lists have.
+fn is_too_long(c: Stored, moving: usize, still: usize, indices: usize) -> bool {
+    let lent = c.lent;
+    let room = lists::at_most(moving, still);
+    !lists::fits(lent, room, room, room, indices)
+}
+
+// What a call finds first that is not as it should be.
+pub(crate) fn judged(c: Stored, moving: &mut [f32], still: &[f32], indices: &[u16]) -> u32 {
+    if is_too_long(c, moving.len(), still.len(), indices.len()) {
+        return answers::TOO_LONG;
+    }
+    lists::fill(1, moving);
+    let found = outcome_judged(c, called(c, moving, still, indices));
+    if found != answers::RIGHT {
+        return found;
     }
     if !list_right(c, moving) {
         return answers::VERTICES;

@@ -3,44 +3,23 @@
 mod merges;
 mod places;
 
+use known::report;
 use merges::Kind;
 use record::tally;
 use record::tally::Tally;
-
-// The tally with one case more.
-fn counted(t: Tally, number: usize, found: u32) -> Tally {
-    tally::with_case(t, (number % 1000000) as u32, 0, 0, found, 0)
-}
 
 // Every case of a kind.
 fn judged(kind: Kind) -> Tally {
     let n = merges::cases(kind);
     let mut t = tally::nothing_yet();
     for k in 0usize..n {
-        t = counted(t, k, merges::judged(merges::case(kind, k)));
+        t = report::counted(t, k, merges::judged(merges::case(kind, k)));
     }
     t
 }
 
-fn print_number(text: &[u8], n: u64) {
-    io::write_all(1, text);
-    io::print_decimal(1, n);
-}
-
-// The first case that differs and what it finds first, if there is one, and the counts.
-fn report(first: &[u8], all: &[u8], t: Tally) {
-    if t.differ > 0 {
-        print_number(first, t.a as u64);
-        print_number(b" differs in ", t.made as u64);
-        io::write_all(1, b"\n");
-    }
-    print_number(all, t.count);
-    print_number(b", differ ", t.differ);
-    io::write_all(1, b"\n");
-}
-
 fn main() {
-    report(b"merge ", b"merges ", judged(Kind::Small));
-    report(b"great merge ", b"great merges ", judged(Kind::Great));
-    report(b"long merge ", b"long merges ", judged(Kind::Long));
+    report::print(b"merge ", b"merges ", judged(Kind::Small));
+    report::print(b"great merge ", b"great merges ", judged(Kind::Great));
+    report::print(b"long merge ", b"long merges ", judged(Kind::Long));
 }

@@ -119,12 +119,19 @@ fn source_at(m: Merge, place: usize) -> u16 {
     source_index(m.source.vertices.0, m.source.indices.0, place)
 }
 
-fn fill_source(m: Merge, out: &mut [u16]) {
-    let mut i = 0;
-    while i < out.len() {
+fn fill_source(m: Merge, out: &mut [u16; INDICES]) {
+    for i in 0usize..INDICES {
         out[i] = source_at(m, i);
-        i += 1;
     }
+}
+
+// Filled as whole arrays: a list's length is then known from its type and not counted.
+fn fill(list: u32, out: &mut [f32; FLOATS]) {
+    lists::fill(list, out);
+}
+
+fn fill_indices(out: &mut [u16; INDICES]) {
+    lists::fill_indices(out);
 }
 
 // Which places of a target's list should have changed.
@@ -140,19 +147,27 @@ fn window(m: Merge, from: usize, to: usize, start: usize) -> Window {
     }
 }
 
-fn expected_index(m: Merge, place: usize) -> u32 {
+// Whether a place of the target's indices should have one of the source's.
+fn is_merged(m: Merge, place: usize) -> bool {
     if m.expected != 0 {
-        return lists::index_at(place) as u32;
+        return false;
     }
     if place < m.target.indices.0 {
-        return lists::index_at(place) as u32;
+        return false;
     }
-    if place < m.need.indices {
-        let at = place - m.target.indices.0;
-        let index = source_index(m.source.vertices.0, m.source.indices.0, at);
-        return index as u32 + (m.target.vertices.0 % 65536) as u32;
+    place < m.need.indices
+}
+
+fn expected_index(m: Merge, place: usize) -> u32 {
+    let from = m.target.indices.0;
+    if place < from {
+        return places::wide(lists::index_at(place));
     }
-    lists::index_at(place) as u32
+    if !is_merged(m, place) {
+        return places::wide(lists::index_at(place));
+    }
+    let index = source_index(m.source.vertices.0, m.source.indices.0, place - from);
+    index as u32 + (m.target.vertices.0 % 65536) as u32
 }
 
 fn indices_hold(m: Merge, indices: &[u16]) -> bool {
@@ -282,12 +297,12 @@ fn found(m: Merge) -> u32 {
     let mut normals = [0.0f32; FLOATS];
     let mut uvs = [0.0f32; FLOATS];
     let mut indices = [0u16; INDICES];
-    lists::fill(SOURCE, &mut from);
+    fill(SOURCE, &mut from);
     fill_source(m, &mut from_indices);
-    lists::fill(1, &mut vertices);
-    lists::fill(2, &mut normals);
-    lists::fill(3, &mut uvs);
-    lists::fill_indices(&mut indices);
+    fill(1, &mut vertices);
+    fill(2, &mut normals);
+    fill(3, &mut uvs);
+    fill_indices(&mut indices);
     let answer = called(
         m,
         &from,
@@ -312,24 +327,23 @@ pub(crate) fn judged(m: Merge) -> u32 {
     found(m)
 }
 
-// Each set of faults that a merge of these counts can have: a short list, an unlawful index of three
-// kinds, a tight buffer.
+// With an unlawful index of one of three kinds, or none.
+fn spoiled(m: Merge, kind: usize) -> Merge {
+    let last = lists::lowered(m.source.indices.0);
+    let above = (m.source.vertices.0 % 65536) as u16;
+    match kind {
+        1 => unlawful(m, last, above),
+        2 => unlawful(m, last, 65535),
+        3 => unlawful(m, 0, above),
+        _ => m,
+    }
+}
+
+// Each set of faults that a merge of these counts can have: a short list, an unlawful index, a tight
+// buffer.
 pub(crate) fn with_faults(m: Merge, which: usize) -> Merge {
     let tightened = tight(m, which / 36 % 5);
-    let count = m.source.indices.0;
-    let above = (m.source.vertices.0 % 65536) as u16;
-    let kind = which / 9 % 4;
-    let last = lists::lowered(count);
-    if kind == 1 {
-        return short(unlawful(tightened, last, above), which % 9);
-    }
-    if kind == 2 {
-        return short(unlawful(tightened, last, 65535), which % 9);
-    }
-    if kind == 3 {
-        return short(unlawful(tightened, 0, above), which % 9);
-    }
-    short(tightened, which % 9)
+    short(spoiled(tightened, which / 9 % 4), which % 9)
 }
 
 // With lists and buffers longer than needed.
@@ -342,68 +356,43 @@ fn longer(m: Merge) -> Merge {
     out
 }
 
-// Counts that wrap when they are multiplied or added: the lists are as short as they look then.
-fn wrapping(which: usize) -> Merge {
+// A merge of these counts, with lists that are too short for them.
+fn beyond(source: Counts, target: Counts) -> Merge {
     let mut out = exact(1, 3, 2, 5);
-    let great = answers::WRAPS[which % 6];
-    let where_it_is = which / 6 % 4;
+    out.source = source;
+    out.target = target;
     out.expected = 1;
-    if where_it_is == 0 {
-        out.source = answers::counts(great, 3);
-        return out;
-    }
-    if where_it_is == 1 {
-        out.source = answers::counts(1, great);
-        return out;
-    }
-    if where_it_is == 2 {
-        out.target = answers::counts(great, 5);
-        return out;
-    }
-    out.target = answers::counts(2, great);
     out
 }
 
+// Counts that wrap when they are multiplied or added: the lists are as short as they look then.
+fn wrapping(which: usize) -> Merge {
+    let great = answers::WRAPS[which % 6];
+    let source = answers::counts(1, 3);
+    let target = answers::counts(2, 5);
+    match which / 6 % 4 {
+        0 => beyond(answers::counts(great, 3), target),
+        1 => beyond(answers::counts(1, great), target),
+        2 => beyond(source, answers::counts(great, 5)),
+        _ => beyond(source, answers::counts(2, great)),
+    }
+}
+
 // Lawful counts: a source's vertices and indices, a target's.
-const SHAPES: [usize; 28] = [
-    0,
-    0,
-    2,
-    5,
-    3,
-    7,
-    0,
-    0,
-    0,
-    0,
-    0,
-    0,
-    1,
-    0,
-    1,
-    0,
-    1,
-    8,
-    1,
-    1,
-    3,
-    7,
-    2,
-    5,
-    0,
-    0,
-    0,
-    4,
-];
+fn shape(which: usize) -> Merge {
+    match which {
+        0 => exact(0, 0, 2, 5),
+        1 => exact(3, 7, 0, 0),
+        2 => exact(0, 0, 0, 0),
+        3 => exact(1, 0, 1, 0),
+        4 => exact(1, 8, 1, 1),
+        5 => exact(3, 7, 2, 5),
+        _ => exact(0, 0, 0, 4),
+    }
+}
 
 fn lawful(which: usize) -> Merge {
-    let at = which % 7 * 4;
-    let m = exact(
-        lists::at_most(SHAPES[at], 8),
-        lists::at_most(SHAPES[at + 1], 8),
-        lists::at_most(SHAPES[at + 2], 8),
-        lists::at_most(SHAPES[at + 3], 8),
-    );
+    let m = shape(which % 7);
     if which < 7 {
         return m;
     }

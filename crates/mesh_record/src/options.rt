@@ -1,54 +1,87 @@
 // The lines of a job's options, one an entry of its table: nine numbers and four marks.
 ghost use mathlib.Core.Path.{_≡_};
-ghost use mathlib.Core.Bool.{true};
-ghost use Prim.Native.Nat.{_+_, _*_, _≤_};
-ghost use lib.ListN.{length};
+ghost use mathlib.Core.Bool.{true, false};
+ghost use Prim.Native.Nat.{_+_, _≤_};
+
+// A table of so many entries, at the front of its lists; where it does not read the rest says nothing.
+pub struct Table {
+    pub reads: bool,
+    pub entries: u32,
+    pub numbers: [f32; 36],
+    pub marks: [u8; 16],
+}
 
 fn mark(cell: u32) -> u8 {
     (cell % 256) as u8
 }
 
-fn put_numbers(cells: &[u32; 13], at: usize, numbers: &mut [f32])
-    requires { ⌜ at + 9 ≤ length (now numbers) ⌝ }
-    ensures { λ _. ⌜ length (now (numbers .exit)) ≡ length (now (numbers .entry)) ⌝ }
+fn put_numbers(cells: [u32; 13], at: usize, numbers: [f32; 36]) -> [f32; 36]
+    requires { ⌜ at ≤ 27 ⌝ }
 {
+    let mut out = numbers;
     for i in 0usize..8 {
-        numbers[at + i] = record::float(cells[2 + i]);
+        out[at + i] = record::float(cells[2 + i]);
     }
-    numbers[at + 8] = record::float(cells[11]);
+    out[at + 8] = record::float(cells[11]);
+    out
 }
 
-fn put_marks(cells: &[u32; 13], at: usize, marks: &mut [u8])
-    requires { ⌜ at + 4 ≤ length (now marks) ⌝ }
-    ensures { λ _. ⌜ length (now (marks .exit)) ≡ length (now (marks .entry)) ⌝ }
+fn put_marks(cells: [u32; 13], at: usize, marks: [u8; 16]) -> [u8; 16]
+    requires { ⌜ at ≤ 12 ⌝ }
 {
-    marks[at] = mark(cells[0]);
-    marks[at + 1] = mark(cells[1]);
-    marks[at + 2] = mark(cells[10]);
-    marks[at + 3] = mark(cells[12]);
+    let mut out = marks;
+    out[at] = mark(cells[0]);
+    out[at + 1] = mark(cells[1]);
+    out[at + 2] = mark(cells[10]);
+    out[at + 3] = mark(cells[12]);
+    out
 }
 
-// Reads as many entries as there is room for, and answers whether they were there and fill it.
-pub fn table(numbers: &mut [f32], marks: &mut [u8]) -> bool
-    ensures numbers { λ _. ⌜ length (now (numbers .exit)) ≡ length (now (numbers .entry)) ⌝ }
-    ensures marks { λ _. ⌜ length (now (marks .exit)) ≡ length (now (marks .entry)) ⌝ }
+fn unread() -> Table
+    ensures { λ r. ⌜ (r .reads ≡ false) × (r .entries ≡ 0) ⌝ }
 {
-    let n = marks.len() / 4;
-    if n > 64 {
-        return false;
+    Table {
+        reads: false,
+        entries: 0,
+        numbers: [0.0; 36],
+        marks: [0u8; 16],
     }
+}
+
+// Reads one entry more.
+fn with_entry(table: Table, k: usize) -> Table
+    requires { ⌜ k ≤ 3 ⌝ }
+    ensures { λ r. ⌜ (r .reads ≡ true → r .entries ≡ k + 1) ⌝ }
+{
+    let mut cells = [0u32; 13];
+    if !record::line(&mut cells) {
+        return unread();
+    }
+    let numbers = table.numbers;
+    let marks = table.marks;
+    let numbers = put_numbers(cells, 9 * k, numbers);
+    let marks = put_marks(cells, 4 * k, marks);
+    Table {
+        reads: true,
+        entries: k as u32 + 1,
+        numbers: numbers,
+        marks: marks,
+    }
+}
+
+// Reads a table of at most four entries.
+pub fn read(entries: u32) -> Table
+    ensures { λ r. ⌜ (r .reads ≡ true → (entries ≤ 4) × (r .entries ≡ entries)) ⌝ }
+{
+    if entries > 4 {
+        return unread();
+    }
+    let mut out = unread();
+    out.reads = true;
     let mut k = 0;
-    while k < n {
-        let mut cells = [0u32; 13];
-        if 9 * k + 9 > numbers.len() {
-            return false;
-        }
-        if !record::line(&mut cells) {
-            return false;
-        }
-        put_numbers(&cells, 9 * k, numbers);
-        put_marks(&cells, 4 * k, marks);
+    while k < entries as usize && out.reads {
+        out = with_entry(out, k);
         k += 1;
     }
-    true
+    out
 }

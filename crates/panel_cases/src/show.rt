@@ -1,7 +1,4 @@
 // Asking for an answer, and printing it.
-ghost use Prim.Native.Nat.{_≤_};
-ghost use lib.ListN.{length};
-ghost use Rattle.io.specs.Counts.{Counts};
 
 // Longer answers are printed as their length and their sum.
 const SHORT: usize = 1000;
@@ -32,46 +29,6 @@ pub(crate) fn tell(name: &[u8], sheet: &[u8]) {
     io::write_all(1, name);
     io::write_all(1, b"\n");
     print(&out[..n]);
-}
-
-fn least(a: usize, b: usize) -> usize
-    ensures { λ r. ⌜ (r ≤ a) × (r ≤ b) ⌝ }
-{
-    if a < b {
-        return a;
-    }
-    b
-}
-
-// A piece after the text so far, cut where the buffer ends, and where the text then ends.
-fn append(text: &mut [u8], at: usize, piece: &[u8]) -> usize
-    requires { ⌜ at ≤ length (now text) ⌝ }
-    ensures { λ r. ⌜ Counts r (now (text .exit)) ⌝ }
-{
-    let n = least(piece.len(), text.len() - at);
-    for k in 0usize..n {
-        text[at + k] = piece[k];
-    }
-    at + n
-}
-
-pub(crate) fn column(name: &[u8], height: &[u8], parts: &[u8], sections: &[u8]) {
-    let mut text = [0u8; 512];
-    let a = append(&mut text, 0, b"column 1\n");
-    let b = append(&mut text, a, height);
-    let c = append(&mut text, b, b" ");
-    let d = append(&mut text, c, parts);
-    let e = append(&mut text, d, b"\n");
-    let f = append(&mut text, e, sections);
-    tell(name, &text[..f]);
-}
-
-pub(crate) fn column_and(name: &[u8], parts: &[u8], sides: &[u8], caps: &[u8], after: &[u8]) {
-    let mut text = [0u8; 512];
-    let a = append(&mut text, 0, sides);
-    let b = append(&mut text, a, caps);
-    let c = append(&mut text, b, after);
-    column(name, b"3fc00000", parts, &text[..c]);
 }
 
 // An answer of ten bytes, for nine places and for eleven.

@@ -2,6 +2,7 @@
 // table has, and the counts of the mesh.
 use face::vec::Vec2;
 use face::vec::Vec3;
+use mesh_record::options::Table;
 use placement::placement::Choice3;
 use placement::placement::Placement;
 use placement::placement::Turn;
@@ -54,7 +55,7 @@ fn turn(words: &[u32; CELLS], at: usize) -> Turn
     Turn::Absent
 }
 
-pub(crate) fn corners(words: &[u32; CELLS]) -> [f32; 12] {
+fn corners(words: &[u32; CELLS]) -> [f32; 12] {
     let mut out = [0.0; 12];
     for i in 0usize..12 {
         out[i] = record::float(words[i]);
@@ -62,7 +63,7 @@ pub(crate) fn corners(words: &[u32; CELLS]) -> [f32; 12] {
     out
 }
 
-pub(crate) fn job(words: &[u32; CELLS]) -> Plane {
+fn job(words: &[u32; CELLS]) -> Plane {
     let scale = supplied(words, 15);
     let turn = turn(words, 19);
     let offset = supplied(words, 29);
@@ -75,5 +76,27 @@ pub(crate) fn job(words: &[u32; CELLS]) -> Plane {
         position: take2(words, 13),
         option: (words[12] % 256) as u8,
         placement: placement,
+    }
+}
+
+// A job with what belongs to it: its corners, its table of options, and how many vertices and
+// indices it should have.
+pub(crate) struct Case {
+    pub job: Plane,
+    pub corners: [f32; 12],
+    pub table: Table,
+    pub v: u32,
+    pub n: u32,
+}
+
+pub(crate) fn case_of(words: &[u32; CELLS], table: Table) -> Case {
+    let job = job(words);
+    let corners = corners(words);
+    Case {
+        job: job,
+        corners: corners,
+        table: table,
+        v: words[34],
+        n: words[35],
     }
 }

@@ -1,5 +1,5 @@
-//! Writes cases and hexx's answers for stored meshes, merges and cheap columns
-//! as cells.
+//! Writes cases and hexx's answers for stored meshes and merges, and for cheap
+//! columns, as cells.
 
 use crate::MeshInfo;
 use crate::line::{Line, part};
@@ -20,7 +20,7 @@ const MERGED: usize = cells(2 * VERTICES, 2 * INDICES);
 /// The cells of a cheap column, which always has the same counts.
 const COLUMN: usize = cells(12, 48) - 2;
 
-/// Writes a record of `cases`.
+/// Writes a record of the stored meshes and merges of `cases`.
 pub fn write(out: &mut impl Write, cases: &Cases) -> io::Result<()> {
     part(out, "scales", 3 + 2 * MESH, &cases.scales, |line, case| {
         let (by, mesh) = case;
@@ -55,7 +55,11 @@ pub fn write(out: &mut impl Write, cases: &Cases) -> io::Result<()> {
         line.mesh(mesh, SUMMED, INDICES);
         line.vec2(mesh.uv_centroid());
     })?;
-    part(out, "merges", 2 * MESH + MERGED, &cases.merges, Line::merge)?;
+    part(out, "merges", 2 * MESH + MERGED, &cases.merges, Line::merge)
+}
+
+/// Writes a record of the cheap columns of `cases`.
+pub fn write_columns(out: &mut impl Write, cases: &Cases) -> io::Result<()> {
     part(out, "columns", 15 + COLUMN, &cases.columns, Line::column)
 }
 

@@ -13,7 +13,8 @@ abbrev μ-loop : tie.MeasureT-loop
 pub lines-spec : {M : Type 1} → statement M
 lines-spec =
     tie.close
-    (tie.spec Inv-loop
+    (tie.spec
+    Inv-loop
     μ-loop
     (λ c κs. search needs)
     (λ c. search needs)

@@ -1,5 +1,5 @@
-//! Writes a record of hexx's answers for stored meshes, merges and cheap
-//! columns to standard output. The arguments are those of `record-faces`.
+//! Writes a record of hexx's answers for stored meshes and merges to standard
+//! output. The arguments are those of `record-faces`.
 
 use oracle::arguments;
 use oracle::mesh_cases;

@@ -13,7 +13,8 @@ abbrev μ-loop : tie.MeasureT-loop
 pub indices-right-spec : {M : Type 1} → statement M
 indices-right-spec =
     tie.close
-    (tie.spec Inv-loop
+    (tie.spec
+    Inv-loop
     μ-loop
     (λ c. search needs)
     (λ c. search needs)

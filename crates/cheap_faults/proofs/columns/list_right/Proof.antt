@@ -13,7 +13,8 @@ abbrev μ-loop : tie.MeasureT-loop
 pub list-right-spec : {M : Type 1} → statement M
 list-right-spec =
     tie.close
-    (tie.spec Inv-loop
+    (tie.spec
+    Inv-loop
     μ-loop
     (λ c. search needs)
     (λ c. search needs)

@@ -5,16 +5,18 @@ use Rattle.column_cases.proofs.replay.refused_disagrees.Statement.{stat
 use Rattle.column_cases.proofs.replay.refused_disagrees.Tie as tie
 
 abbrev Inv-loop : tie.InvT-loop
-Inv-loop words faces v n numbers marks which k₀ k = Unit {0}
+Inv-loop case faces which k₀ k = Unit {0}
 
 abbrev μ-loop : tie.MeasureT-loop
-μ-loop words faces v n numbers marks which k₀ k = 16 - k
+μ-loop case faces which k₀ k = 16 - k
 
 pub refused-disagrees-spec : {M : Type 1} → statement M
 refused-disagrees-spec =
     tie.close
     (tie.spec Inv-loop
     μ-loop
+    (λ c. search needs)
+    (λ c. search needs)
     (λ c. search needs)
     (λ c. search needs)
     (λ c. search needs)

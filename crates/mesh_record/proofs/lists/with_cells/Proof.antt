@@ -5,10 +5,10 @@ use Rattle.mesh_record.proofs.lists.with_cells.Statement.{statement}
 use Rattle.mesh_record.proofs.lists.with_cells.Tie as tie
 
 abbrev Inv-loop : tie.InvT-loop
-Inv-loop line made cells n out₀ i₀ out i = Unit {0}
+Inv-loop line n made cells out₀ i₀ out i = Unit {0}
 
 abbrev μ-loop : tie.MeasureT-loop
-μ-loop line made cells n out₀ i₀ out i = n - i
+μ-loop line n made cells out₀ i₀ out i = n - i
 
 pub with-cells-spec : {M : Type 1} → statement M
 with-cells-spec =

@@ -15,4 +15,6 @@ with-mesh-spec =
     (λ c κs. search needs)
     (λ c. λ h. absurd (false≢true (sym (ap (λ t. t .reads) (c .no-record3 .ensures)) ∙ h)))
     (λ c κs. search needs)
+    (λ c. search needs)
+    (λ c κs. search needs)
     (λ c. search needs))

@@ -17,7 +17,6 @@ with-triangles-spec =
     μ-loop
     (λ c. search needs)
     (λ c. search needs)
-    (λ c. search needs)
     (λ c κs. search needs)
     (λ c. search needs)
     (λ c κs. search needs)

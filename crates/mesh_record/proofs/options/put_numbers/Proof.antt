@@ -1,16 +1,14 @@
--- `mesh_record::options::put_numbers` is safe and ends: `i` counts up to the numbers before the inset's, and a write keeps the length. Assumes nothing.
+-- `options::put_numbers` is safe and ends: `i` counts up to the numbers before the inset's. Assumes nothing.
 use Prim.Native.Nat.{_-_}
-use mathlib.Core.Path.{_≡_}
-use lib.ListN.{length, length-set}
 use borrow.Author.Needs.{needs}
 use Rattle.mesh_record.proofs.options.put_numbers.Statement.{statement}
 use Rattle.mesh_record.proofs.options.put_numbers.Tie as tie
 
 abbrev Inv-loop : tie.InvT-loop
-Inv-loop cells at numbers₀ i₀ numbers i = length numbers ≡ length numbers₀
+Inv-loop at cells out₀ i₀ out i = Unit {0}
 
 abbrev μ-loop : tie.MeasureT-loop
-μ-loop cells at numbers₀ i₀ numbers i = 8 - i
+μ-loop at cells out₀ i₀ out i = 8 - i
 
 pub put-numbers-spec : {M : Type 1} → statement M
 put-numbers-spec =
@@ -30,7 +28,6 @@ put-numbers-spec =
     (λ c. search needs)
     (λ c. search needs)
     (λ c κs. search needs)
-    (λ c. search needs)
     (λ c. search needs)
     (λ c. search needs)
     (λ c. search needs)

@@ -5,10 +5,10 @@ use Rattle.plane_cases.proofs.replay.disagrees.Statement.{statement}
 use Rattle.plane_cases.proofs.replay.disagrees.Tie as tie
 
 abbrev Inv-loop : tie.InvT-loop
-Inv-loop words v n numbers marks vertices normals uvs indices k₀ k = Unit {0}
+Inv-loop case whole k₀ k = Unit {0}
 
 abbrev μ-loop : tie.MeasureT-loop
-μ-loop words v n numbers marks vertices normals uvs indices k₀ k = 15 - k
+μ-loop case whole k₀ k = 15 - k
 
 pub disagrees-spec : {M : Type 1} → statement M
 disagrees-spec =
@@ -18,8 +18,6 @@ disagrees-spec =
     (λ c κs. search needs)
     (λ c κs. search needs)
     (λ c. search needs)
-    (λ c κs. search needs)
-    (λ c κs. search needs)
     (λ c. search needs)
     (λ c. search needs)
     (λ c. search needs)

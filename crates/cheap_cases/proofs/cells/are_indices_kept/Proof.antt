@@ -1,0 +1,26 @@
+-- `cheap_cases::cells::are_indices_kept` is safe and ends: `i` counts up to the list's length. Assumes nothing.
+use Prim.Native.Nat.{_-_}
+use borrow.Author.Needs.{needs}
+use Rattle.cheap_cases.proofs.cells.are_indices_kept.Statement.{statement}
+use Rattle.cheap_cases.proofs.cells.are_indices_kept.Tie as tie
+
+abbrev Inv-loop : tie.InvT-loop
+Inv-loop list i₀ i = Unit {0}
+
+abbrev μ-loop : tie.MeasureT-loop
+μ-loop list i₀ i = 52 - i
+
+pub are-indices-kept-spec : {M : Type 1} → statement M
+are-indices-kept-spec =
+    tie.close
+    (tie.spec
+    Inv-loop
+    μ-loop
+    (λ c. search needs)
+    (λ c. search needs)
+    (λ c. search needs)
+    (λ c. search needs)
+    (λ c. search needs)
+    (λ c. search needs)
+    (λ c. search needs)
+    (λ c. search needs))

@@ -1,0 +1,28 @@
+-- `cheap_cases::replay::corners_of` is safe and ends: `i` counts up to the number of corners' numbers. Assumes nothing.
+use Prim.Native.Nat.{_-_}
+use borrow.Author.Needs.{needs}
+use Rattle.cheap_cases.proofs.replay.corners_of.Statement.{statement}
+use Rattle.cheap_cases.proofs.replay.corners_of.Tie as tie
+
+abbrev Inv-loop : tie.InvT-loop
+Inv-loop words out₀ i₀ out i = Unit {0}
+
+abbrev μ-loop : tie.MeasureT-loop
+μ-loop words out₀ i₀ out i = 12 - i
+
+pub corners-of-spec : {M : Type 1} → statement M
+corners-of-spec =
+    tie.close
+    (tie.spec
+    Inv-loop
+    μ-loop
+    (λ c. search needs)
+    (λ c. search needs)
+    (λ c. search needs)
+    (λ c κs. search needs)
+    (λ c. search needs)
+    (λ c. search needs)
+    (λ c. search needs)
+    (λ c. search needs)
+    (λ c. search needs)
+    (λ c. search needs))
