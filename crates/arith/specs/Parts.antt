@@ -77,6 +77,6 @@ pub record Exact (x y z bits : ℕ) : Type 0 where
   pub product : bits % 2 ^ 63 / 2 ^ 52 ≤ expOf (x % 2 ^ 31) + expOf (y % 2 ^ 31) + 777
   pub addend : (z % 2 ^ 31 ≡ 0) ⊎ (bits % 2 ^ 63 / 2 ^ 52 ≤ expOf (z % 2 ^ 31) + 926)
 
--- the pattern of the `f32` nearest to an `f64`'s: 29 digits fewer, and 896 taken from the exponent's field
+-- the pattern of the `f32` nearest to an `f64`'s of such a size, or to a zero's: 29 digits fewer, and 896 taken from the exponent's field
 abbrev pub narrow : ℕ → ℕ
 narrow bits = cond (leb (2 ^ 63) bits) (2 ^ 31) 0 + (closest (bits % 2 ^ 63) (2 ^ 29) - 896 * 2 ^ 23)

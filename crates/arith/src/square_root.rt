@@ -84,8 +84,8 @@ fn bends(at: u64) -> u64 {
     }
 }
 
-// A guess at the whole number nearest to the root of m * 2 ^ (23 + odd), right for all but one m in a hundred.
-// What the two tables hold sets the speed alone: the guess is tested.
+// A guess at the whole number nearest to the root of m * 2 ^ (23 + odd), right for all but one m in a
+// hundred. What the two tables hold sets the speed alone: the guess is tested.
 fn guess(m: u64, odd: u64) -> u64
     requires { ⌜ odd < 2 ⌝ }
     ensures { λ r. ⌜ r ≤ 2 ^ 25 ⌝ }

@@ -1,4 +1,5 @@
-// The faces of a column laid into four buffers, each where it fits: one by its name, or all of them end to end.
+// The faces of a column laid into four buffers, each where it fits: one by its name, or all of them
+// end to end.
 ghost use mathlib.Core.Path.{_≡_};
 ghost use mathlib.Core.List.{[], map};
 ghost use Prim.Native.Nat.{_+_, _≤_, _<_, _^_};

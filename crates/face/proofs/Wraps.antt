@@ -9,7 +9,7 @@ use lib.Ieee.Fits.{add-fits}
 use Rattle.arith.specs.Root.{root}
 use Rattle.face.specs.declared.vec.Vec2.{Vec2}
 use Rattle.face.specs.Lists.{pick}
-use Rattle.face.specs.Vec.{f0, top, times2, square2, length2, alike, reciprocal, serves, ordinary}
+use Rattle.face.specs.Vec.{f0, top, large, times2, square2, length2, alike, reciprocal, serves, ordinary}
 use Rattle.face.specs.Texture.{unitOr, halved, wrapped, oneOfBoth}
 
 -- both tests passed
@@ -37,7 +37,7 @@ alike-squares p q h =
     by-pattern p ∙ ap (ofBits binary32) (eqb-true (toBits binary32 (square2 p)) (toBits binary32 (square2 q)) (both (eq (square2 p) (square2 q)) (eqb (toBits binary32 (square2 p)) (toBits binary32 (square2 q))) h .1)) ∙ sym (by-pattern q)
 
 -- what is no more than a number is no infinity above it
-no-more : (k : Float) → le k (ofBits binary32 0x4f80_0000) ≡ true → lt k top ≡ true
+no-more : (k : Float) → le k (large) ≡ true → lt k top ≡ true
 unfolding lt le eq ofBits
 no-more nan h = absurd (false≢true h)
 no-more (inf true) h = refl
@@ -45,7 +45,7 @@ no-more (inf false) h = absurd (false≢true h)
 no-more (fin s m e) h = refl
 
 ordinary-serves : (k : Float) → ordinary k ≡ true → serves k ≡ true
-ordinary-serves k h = let b = both (lt f0 k) (le k (ofBits binary32 0x4f80_0000)) h in rw (b .0, no-more k (b .1))
+ordinary-serves k h = let b = both (lt f0 k) (le k (large)) h in rw (b .0, no-more k (b .1))
 
 no-direction : ordinary f0 ≡ false
 unfolding lt le eq ofBits

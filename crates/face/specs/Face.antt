@@ -4,7 +4,7 @@ use lib.Ieee.{Float}
 use Rattle.face.specs.declared.vec.Vec2.{Vec2}
 use Rattle.face.specs.declared.face.Quad.{Quad}
 use Rattle.face.specs.declared.face.Hexagon.{Hexagon}
-use Rattle.face.specs.Vec.{v2, v3, f0, f1, minus, over, plus2, unit2, upright, flat}
+use Rattle.face.specs.Vec.{v2, f0, f1, minus, over, plus2, unit2, upright, flat, upward}
 use Rattle.face.specs.Texture.{wrapped}
 
 -- F1 to F3: a quad that goes round from its right bottom, with the v of its bottom and of its top. Its
@@ -29,4 +29,4 @@ boundedQuadOf l r bottom top min max = quadWith l r bottom top (level min max bo
 
 -- F5: the corners laid flat in their order, facing up
 abbrev pub hexagonOf : List Vec2 → Hexagon
-hexagonOf cs = record { positions = map flat cs; normal = v3 f0 f1 f0; uvs = map wrapped cs }
+hexagonOf cs = record { positions = map flat cs; normal = upward; uvs = map wrapped cs }

@@ -28,7 +28,7 @@ unitOr p k = pick (serves k) (times2 p k) p
 abbrev pub halved : Vec2 → Vec2
 halved q = v2 (plus (over (q .x) f2) half) (plus (over (q .y) f2) half)
 
--- T4
+-- T4: the direction of a corner, or the corner where it has none, about the middle
 abbrev pub wrapped : Vec2 → Vec2
 wrapped p = halved (unitOr p (reciprocal (length2 p)))
 

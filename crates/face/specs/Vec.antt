@@ -15,7 +15,7 @@ v2 x y = record { x = x; y = y }
 abbrev pub v3 : Float → Float → Float → Vec3
 v3 x y z = record { x = x; y = y; z = z }
 
--- +0, 1, 2, one half and +infinity, by their patterns
+-- +0, 1, 2, one half, +infinity and 2 ^ 32, by their patterns
 abbrev pub f0 : Float
 f0 = ofBits binary32 0
 
@@ -30,6 +30,9 @@ half = ofBits binary32 0x3f00_0000
 
 abbrev pub top : Float
 top = ofBits binary32 0x7f80_0000
+
+abbrev pub large : Float
+large = ofBits binary32 0x4f80_0000
 
 -- the four steps
 abbrev pub plus : Float → Float → Float
@@ -88,6 +91,10 @@ upright p y = v3 (p .x) y (p .y)
 abbrev pub flat : Vec2 → Vec3
 flat p = upright p f0
 
+-- the normal of what lies flat
+abbrev pub upward : Vec3
+upward = v3 f0 f1 f0
+
 -- the squared length: products from left to right
 abbrev pub square2 : Vec2 → Float
 square2 a = plus (times (a .x) (a .x)) (times (a .y) (a .y))
@@ -112,9 +119,9 @@ reciprocal l = over f1 l
 abbrev pub serves : Float → Bool
 serves k = lt f0 k && lt k top
 
--- serving, and told so by a test that is quicker: speed alone hangs on it
+-- above 0 and at most 2 ^ 32, so that it serves; speed alone hangs on this test
 abbrev pub ordinary : Float → Bool
-ordinary k = lt f0 k && le k (ofBits binary32 0x4f80_0000)
+ordinary k = lt f0 k && le k large
 
 -- normalised: each component by the reciprocal of the length
 abbrev pub unit2 : Vec2 → Vec2

@@ -130,8 +130,8 @@ fn one_of(p: Vec2) -> f32
     crate::vec::one_over(crate::vec::len2(p))
 }
 
-// The reciprocal length of two corners, where their squares are the same, as those of opposite ones about the origin
-// are; else 0, which gives no direction.
+// The reciprocal length of two corners, where their squares are the same, as those of opposite ones
+// about the origin are; else 0, which gives no direction.
 pub fn one_of_both(p: Vec2, q: Vec2) -> f32
     ensures { λ r. ⌜ r ≡ oneOfBoth p q ⌝ }
 {

@@ -112,7 +112,7 @@ pub fn is_usable(k: f32) -> bool
     false
 }
 
-// Whether a reciprocal length is one of those at hand: then it gives a direction.
+// The same by a quicker test, which no reciprocal length of a lawful job fails but for its smallest corners.
 pub fn is_ordinary(k: f32) -> bool
     ensures { λ r. ⌜ r ≡ ordinary k ⌝ }
 {

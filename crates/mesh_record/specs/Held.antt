@@ -13,6 +13,7 @@ use Rattle.mesh_record.specs.declared.held.Held.{Held}
 abbrev pub kept : Float
 kept = ofBits binary32 0xc7f1_2060
 
+-- lists that no call has written to
 abbrev pub untouched : Held
 untouched = record { vertices = replicate 800 kept; normals = replicate 800 kept; uvs = replicate 800 kept; indices = replicate 1000 43981 }
 
@@ -25,6 +26,7 @@ allFrom p i (suc n) = cond (p i) (allFrom p (i + 1) n) false
 abbrev pub alike : List Float → List Float → ℕ → Bool
 alike a b from = allFrom (λ i. eqb (toBits binary32 (getD a i nan)) (toBits binary32 (getD b i nan))) from (800 - from)
 
+-- the same of indices
 abbrev pub alikeIndices : List ℕ → List ℕ → ℕ → Bool
 alikeIndices a b from = allFrom (λ i. eqb (getD a i 0) (getD b i 0)) from (1000 - from)
 
@@ -39,5 +41,6 @@ unlike a b from =
     2)
     1
 
+-- no list differs anywhere
 abbrev pub same : Held → Held → Bool
 same a b = eqb (unlike a b (lengths 0 0 0 0)) 0

@@ -11,6 +11,7 @@ use Rattle.mesh_record.specs.Held.{untouched, unlike}
 use Rattle.answer.specs.declared.answer.Answer.{Answer}
 use Rattle.answer.specs.Answers.{numberOf, countsOf}
 
+-- a count as a cell
 abbrev pub narrowed : ℕ → ℕ
 narrowed n = cond (ltb n 0xffff_ffff) n 0xffff_ffff
 
@@ -18,9 +19,11 @@ narrowed n = cond (ltb n 0xffff_ffff) n 0xffff_ffff
 unfoldable pub withCell : Tally → ℕ → ℕ → ℕ → Tally
 withCell t at made recorded = compared t 0 at 0 made recorded
 
+-- two counts, each against the record's
 abbrev pub withCounts : ℕ → Counts → ℕ → ℕ → Tally
 withCounts at counts v n = withCell (withCell nothingYet at (narrowed (counts .vertices .0)) v) (at + 1) (narrowed (counts .indices .0)) n
 
+-- three marks that should be 0
 abbrev pub withMarks : Tally → ℕ → ℕ → ℕ → ℕ → Tally
 withMarks t at number changed other = withCell (withCell (withCell t at number 0) (at + 1) changed 0) (at + 2) other 0
 

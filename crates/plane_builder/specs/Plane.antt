@@ -11,7 +11,7 @@ use Rattle.face.specs.declared.face.Hexagon.{Hexagon}
 use Rattle.face.specs.declared.inset.InsetHexagon.{InsetHexagon}
 use Rattle.face.specs.declared.uv_mapping.UvOptions.{UvOptions}
 use Rattle.face.specs.Lists.{each}
-use Rattle.face.specs.Vec.{v3, f0, f1, flat}
+use Rattle.face.specs.Vec.{flat}
 use Rattle.face.specs.Texture.{plain, altered}
 use Rattle.face.specs.Face.{hexagonOf}
 use Rattle.face.specs.Inset.{insetHexagonOf}
@@ -38,10 +38,6 @@ use Rattle.plane_builder.specs.declared.Plane.{Plane}
 abbrev pub settled : Placement → Vec2 → Placement
 settled s at = record { scale = s .scale; turn = s .turn; offset = choice.With (moved (s .offset) (flat at)) }
 
--- the normal of a plane that lies
-abbrev pub level : Vec3
-level = v3 f0 f1 f0
-
 -- B5: uvs altered, those of the outer and of the inner points
 abbrev pub alteredHexagon : UvOptions → InsetHexagon → InsetHexagon
 alteredHexagon o h = record { positions = h .positions; normal = h .normal; uvs = map (altered o) (h .uvs) }
@@ -66,12 +62,13 @@ plainBy job l o = alteredPlainHexagon (o .uv) (placedPlainHexagon (settled (job 
 abbrev pub movedPlane : Vec3 → List Float → Hexagon
 movedPlane by l = alteredPlainHexagon plain (placedPlainHexagon (record { scale = choice.Absent; turn = turn.Absent; offset = choice.With by }) (hexagonOf (cornersOf l)))
 
--- a plane that is so, by a test on which speed alone hangs
+-- neither scaled nor turned
 abbrev pub movedAlone : Choice3 → Turn → Bool
 movedAlone choice.Absent turn.Absent = true
 movedAlone choice.Absent (turn.Rows a b c) = false
 movedAlone (choice.With s) t = false
 
+-- a plane of the default options that is only moved; speed alone hangs on this test
 abbrev pub simple : Plane → List Float → Bool
 simple job l = eqb (job .option) 255 && (eqb (length l) 12 && movedAlone (job .placement .scale) (job .placement .turn))
 

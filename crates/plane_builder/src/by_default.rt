@@ -1,17 +1,17 @@
-// A plane of the default options that is neither scaled nor turned, as most are: its numbers go from the corners
+// A plane of the default options that is neither scaled nor turned: its numbers go from the corners
 // straight into the buffers.
 ghost use mathlib.Core.Path.{_≡_};
 ghost use Prim.Native.Nat.{_+_, _*_, _≤_};
 ghost use lib.ListN.{length};
 ghost use Rattle.face.specs.Lists.{chain};
-ghost use Rattle.face.specs.Vec.{plus3, flat};
+ghost use Rattle.face.specs.Vec.{plus3, flat, upward};
 ghost use Rattle.face.specs.Texture.{plain, altered, wrapped};
 ghost use Rattle.face.specs.Triangles.{hexagonTriangles};
 ghost use Rattle.mesh.specs.Stored.{cornerFrom};
 ghost use Rattle.buffers.specs.Mesh.{none};
 ghost use Rattle.buffers.specs.Laying.{four, three, two, corners, spread, laid, lay};
 ghost use Rattle.buffers.specs.Faces.{plainHexagonMesh};
-ghost use Rattle.plane_builder.specs.Plane.{level, movedPlane};
+ghost use Rattle.plane_builder.specs.Plane.{movedPlane};
 use face::vec::Vec2;
 use face::vec::Vec3;
 
@@ -66,7 +66,7 @@ fn put_points(by: Vec3, corners: &[f32], vertices: &mut [f32])
 
 fn put_normals(normals: &mut [f32])
     requires { ⌜ 18 ≤ length (now normals) ⌝ }
-    ensures { λ _. ⌜ now (normals .exit) ≡ laid (now (normals .entry)) 0 (chain (λ k. three level) 6) ⌝ }
+    ensures { λ _. ⌜ now (normals .exit) ≡ laid (now (normals .entry)) 0 (chain (λ k. three upward) 6) ⌝ }
 {
     let up = Vec3 {
         x: 0.0,
@@ -128,7 +128,7 @@ fn put_indices(indices: &mut [u16])
     }
 }
 
-// The plane that lies there, after so much of a way.
+// The plane, moved by so much.
 pub(crate) fn put_moved(
     by: Vec3,
     corners: &[f32],

@@ -264,7 +264,7 @@ fn put_inset(
     buffers::laying::lay_hexagon(inset, h, start, vertices, normals, uvs, indices);
 }
 
-// By the way of its inset.
+// Any plane: one face by value, with its inset or without.
 fn put_any(
     job: Plane,
     corners: &[f32],
