@@ -25,7 +25,7 @@ pub(crate) struct Lists {
     pub(crate) indices: [u16; INDICES],
 }
 
-// The lesser number. A count that is too great for its line differs there from the record's.
+// The lesser number. A line that has a count too great for its room is noticed: its answer has less.
 pub(crate) fn at_most(n: u32, most: usize) -> usize
     ensures { λ r. ⌜ r ≤ most ⌝ }
 {

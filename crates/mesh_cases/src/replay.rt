@@ -105,15 +105,15 @@ fn mesh_cells(answer: Answer, lists: Lists, at: usize, room: usize, most: usize)
     out
 }
 
-// The mesh that a call has left, held to the counts that the record has at its place.
-fn mesh_made(left: Left, words: &[u32; CELLS], at: usize, room: usize, most: usize) -> Made
+// The mesh that a call has left, held to the counts that it should have.
+fn mesh_made(left: Left, expected: [u32; 2], at: usize, room: usize, most: usize) -> Made
     requires { ⌜ (room ≤ 8) × (most ≤ 16) × (at + 8 * room ≤ 148) ⌝ }
 {
     let answer = left.answer;
     let lists = left.lists;
     Made {
         cells: mesh_cells(answer, lists, at, room, most),
-        mark: mark(answer, lists, words[at], words[at + 1]),
+        mark: mark(answer, lists, expected[0], expected[1]),
     }
 }
 
@@ -166,7 +166,8 @@ fn changed_by(part: Part, words: &[u32; CELLS], counts: Counts, lists: Lists) ->
     }
 }
 
-// A line that has one mesh, at a place behind the parameter, and what it becomes.
+// A line that has one mesh, at a place behind the parameter, and what it becomes, which has the counts
+// that went in.
 fn change_line(part: Part, words: &[u32; CELLS], at: usize) -> Made
     requires { ⌜ at ≤ 3 ⌝ }
 {
@@ -174,7 +175,7 @@ fn change_line(part: Part, words: &[u32; CELLS], at: usize) -> Made
     let n = cells::at_most(words[at + 1], 8);
     let lists = cells::lists_at(words, at, 4, v, n);
     let left = changed_by(part, words, answers::counts(v, n), lists);
-    mesh_made(left, words, at + 42, 4, 8)
+    mesh_made(left, [words[at], words[at + 1]], at + 42, 4, 8)
 }
 
 // A centroid where a line has it; the answer is held to the counts that the line starts with.
@@ -255,6 +256,11 @@ fn merged(source: Counts, from: Lists, target: Counts, onto: Lists) -> Left {
     }
 }
 
+fn both(a: u32, b: u32) -> u32 {
+    cells::narrow(a as usize + b as usize)
+}
+
+// A line that has two meshes, and what the second becomes, which has the counts of both.
 fn merge_line(words: &[u32; CELLS]) -> Made {
     let v = cells::at_most(words[0], 4);
     let n = cells::at_most(words[1], 8);
@@ -263,7 +269,9 @@ fn merge_line(words: &[u32; CELLS]) -> Made {
     let from = cells::lists_at(words, 0, 4, v, n);
     let onto = cells::lists_at(words, 42, 4, a, b);
     let left = merged(answers::counts(v, n), from, answers::counts(a, b), onto);
-    mesh_made(left, words, 84, 8, 16)
+    let vertices = both(words[0], words[42]);
+    let indices = both(words[1], words[43]);
+    mesh_made(left, [vertices, indices], 84, 8, 16)
 }
 
 pub(crate) fn answers(part: Part, words: &[u32; CELLS]) -> Made {
