@@ -147,15 +147,9 @@ fn window(m: Merge, from: usize, to: usize, start: usize) -> Window {
     }
 }
 
-// Whether a place of the target's indices should have one of the source's.
+// Whether a place behind the target's own indices should have one of the source's.
 fn is_merged(m: Merge, place: usize) -> bool {
-    if m.expected != 0 {
-        return false;
-    }
-    if place < m.target.indices.0 {
-        return false;
-    }
-    place < m.need.indices
+    m.expected == 0 && place < m.need.indices
 }
 
 fn expected_index(m: Merge, place: usize) -> u32 {
