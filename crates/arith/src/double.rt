@@ -99,7 +99,7 @@ fn lowered(near: u64) -> u32
     (near - 0x1_c000_0000) as u32
 }
 
-// The `f32` nearest to the number of a pattern, a tie to the even one.
+// The `f32` nearest to a zero, or to the number of a pattern of such a size, a tie to the even one.
 pub(crate) fn rounded(bits: u64) -> f32
     requires { ⌜ bits % 2 ^ 63 < 1150 * 2 ^ 52 ⌝ }
     ensures { λ r. ⌜ r ≡ ofBits binary32 (narrow bits) ⌝ }

@@ -7,8 +7,8 @@ ghost use Rattle.arith.specs.Parts.{WholeRoot, NearestRoot, Digits};
 use crate::pattern::Scaled;
 
 // Two octaves in sixteenths, and on each a cubic that falls back from its end: here 2 ^ 7 times the
-// root at the end, with a half, and the slope, 32 bits each. A `match` is read from one place in memory, where an
-// array would be written to the frame at each call.
+// root at the end, with a half, and the slope, 32 bits each. A `match` is read from one place in
+// memory, where an array would be written to the frame at each call.
 fn end_and_slope(at: u64) -> u64 {
     match at {
         0 => 0x41f83ddf_7c2dc448,

@@ -1,7 +1,6 @@
 // A call of `column_builder` that is handed everything by value.
 use crate::job::Case;
 use answer::answer::Answer;
-use column::Column;
 use known::lists::Lengths;
 use mesh_record::held::Held;
 ghost use Prim.Native.Nat.{_≤_};
@@ -15,43 +14,14 @@ pub(crate) struct Made {
     pub held: Held,
 }
 
-fn build(
-    entries: usize,
-    room: Lengths,
-    numbers: [f32; 36],
-    marks: [u8; 16],
+// What a call has left, put together.
+fn left(
+    answer: Answer,
     vertices: [f32; 800],
     normals: [f32; 800],
     uvs: [f32; 800],
     indices: [u16; 1000],
-    ends: [f32; 24],
-    corners: [f32; 12],
-    job: Column,
-) -> Made
-    requires { ⌜ entries ≤ 4 ⌝ }
-    requires { ⌜ (room .vertices ≤ 800) × (room .normals ≤ 800) × (room .uvs ≤ 800) × (room .indices ≤ 1000) ⌝ }
-{
-    let p = 9 * entries;
-    let q = 4 * entries;
-    let a = room.vertices;
-    let b = room.normals;
-    let c = room.uvs;
-    let d = room.indices;
-    let mut vertices = vertices;
-    let mut normals = normals;
-    let mut uvs = uvs;
-    let mut indices = indices;
-    let answer = column_builder::build(
-        job,
-        &ends,
-        &corners,
-        &numbers[..p],
-        &marks[..q],
-        &mut vertices[..a],
-        &mut normals[..b],
-        &mut uvs[..c],
-        &mut indices[..d],
-    );
+) -> Made {
     let held = Held {
         vertices: vertices,
         normals: normals,
@@ -62,6 +32,42 @@ fn build(
         answer: answer,
         held: held,
     }
+}
+
+fn build(
+    entries: usize,
+    room: Lengths,
+    numbers: [f32; 36],
+    marks: [u8; 16],
+    vertices: [f32; 800],
+    normals: [f32; 800],
+    uvs: [f32; 800],
+    indices: [u16; 1000],
+    case: Case,
+) -> Made
+    requires { ⌜ entries ≤ 4 ⌝ }
+    requires { ⌜ (room .vertices ≤ 800) × (room .normals ≤ 800) × (room .uvs ≤ 800) × (room .indices ≤ 1000) ⌝ }
+{
+    let ends = case.ends;
+    let corners = case.corners;
+    let p = 9 * entries;
+    let q = 4 * entries;
+    let mut vertices = vertices;
+    let mut normals = normals;
+    let mut uvs = uvs;
+    let mut indices = indices;
+    let answer = column_builder::build(
+        case.job,
+        &ends,
+        &corners,
+        &numbers[..p],
+        &marks[..q],
+        &mut vertices[..room.vertices],
+        &mut normals[..room.normals],
+        &mut uvs[..room.uvs],
+        &mut indices[..room.indices],
+    );
+    left(answer, vertices, normals, uvs, indices)
 }
 
 fn face(
@@ -74,45 +80,32 @@ fn face(
     normals: [f32; 800],
     uvs: [f32; 800],
     indices: [u16; 1000],
-    ends: [f32; 24],
-    corners: [f32; 12],
-    job: Column,
+    case: Case,
 ) -> Made
     requires { ⌜ entries ≤ 4 ⌝ }
     requires { ⌜ (room .vertices ≤ 800) × (room .normals ≤ 800) × (room .uvs ≤ 800) × (room .indices ≤ 1000) ⌝ }
 {
+    let ends = case.ends;
+    let corners = case.corners;
     let p = 9 * entries;
     let q = 4 * entries;
-    let a = room.vertices;
-    let b = room.normals;
-    let c = room.uvs;
-    let d = room.indices;
     let mut vertices = vertices;
     let mut normals = normals;
     let mut uvs = uvs;
     let mut indices = indices;
     let answer = column_builder::face(
-        job,
+        case.job,
         &ends,
         &corners,
         &numbers[..p],
         &marks[..q],
         which,
-        &mut vertices[..a],
-        &mut normals[..b],
-        &mut uvs[..c],
-        &mut indices[..d],
+        &mut vertices[..room.vertices],
+        &mut normals[..room.normals],
+        &mut uvs[..room.uvs],
+        &mut indices[..room.indices],
     );
-    let held = Held {
-        vertices: vertices,
-        normals: normals,
-        uvs: uvs,
-        indices: indices,
-    };
-    Made {
-        answer: answer,
-        held: held,
-    }
+    left(answer, vertices, normals, uvs, indices)
 }
 
 // The whole build, or the call of a face, lent so much of each list.
@@ -124,8 +117,6 @@ pub(crate) fn call(which: usize, case: Case, room: Lengths, held: Held) -> Made 
     let normals = held.normals;
     let uvs = held.uvs;
     let indices = held.indices;
-    let ends = case.ends;
-    let corners = case.corners;
     let room = known::lists::within(room, 800, 800, 800, 1000);
     let entries = known::lists::at_most(table.entries as usize, 4);
     if which == WHOLE {
@@ -138,9 +129,7 @@ pub(crate) fn call(which: usize, case: Case, room: Lengths, held: Held) -> Made 
             normals,
             uvs,
             indices,
-            ends,
-            corners,
-            case.job,
+            case,
         );
     }
     face(
@@ -153,9 +142,7 @@ pub(crate) fn call(which: usize, case: Case, room: Lengths, held: Held) -> Made 
         normals,
         uvs,
         indices,
-        ends,
-        corners,
-        case.job,
+        case,
     )
 }
 

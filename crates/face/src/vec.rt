@@ -112,7 +112,8 @@ pub fn is_usable(k: f32) -> bool
     false
 }
 
-// The same by a quicker test, which no reciprocal length of a lawful job fails but for its smallest corners.
+// A quicker test that is enough: what is above 0 and at most 2 ^ 32 gives a direction. Only points
+// nearer to the origin than 2 ^ -32 have a greater one.
 pub fn is_ordinary(k: f32) -> bool
     ensures { λ r. ⌜ r ≡ ordinary k ⌝ }
 {

@@ -12,6 +12,26 @@ pub(crate) struct Made {
     pub held: Held,
 }
 
+// What a call has left, put together.
+fn left(
+    answer: Answer,
+    vertices: [f32; 800],
+    normals: [f32; 800],
+    uvs: [f32; 800],
+    indices: [u16; 1000],
+) -> Made {
+    let held = Held {
+        vertices: vertices,
+        normals: normals,
+        uvs: uvs,
+        indices: indices,
+    };
+    Made {
+        answer: answer,
+        held: held,
+    }
+}
+
 fn build(
     entries: usize,
     room: Lengths,
@@ -47,16 +67,7 @@ fn build(
         &mut uvs[..c],
         &mut indices[..d],
     );
-    let held = Held {
-        vertices: vertices,
-        normals: normals,
-        uvs: uvs,
-        indices: indices,
-    };
-    Made {
-        answer: answer,
-        held: held,
-    }
+    left(answer, vertices, normals, uvs, indices)
 }
 
 fn face(
@@ -96,16 +107,7 @@ fn face(
         &mut uvs[..c],
         &mut indices[..d],
     );
-    let held = Held {
-        vertices: vertices,
-        normals: normals,
-        uvs: uvs,
-        indices: indices,
-    };
-    Made {
-        answer: answer,
-        held: held,
-    }
+    left(answer, vertices, normals, uvs, indices)
 }
 
 // The whole build for 0, and the call of face k for k + 1, lent so much of each list.
