@@ -1,5 +1,6 @@
 -- A promise that is an equation fixes its result: any two that it allows are equal. As values: the logic has one NaN, so its pattern is left open. Assumes nothing.
 use mathlib.Core.Path.{_≡_, sym, _∙_}
+use mathlib.Core.List.{List, map}
 use lib.Ieee.{Float}
 use Rattle.arith.specs.Root.{root}
 use Rattle.arith.specs.Fused.{fma}
@@ -9,6 +10,12 @@ determined p q = p ∙ sym q
 
 pub root-determined : (x r s : Float) → r ≡ root x → s ≡ root x → r ≡ s
 root-determined x r s p q = determined p q
+
+pub roots-determined : (xs r s : List Float) → r ≡ map root xs → s ≡ map root xs → r ≡ s
+roots-determined xs r s p q = determined p q
+
+pub fused-six-determined : (a : Float) (bs : List Float) (c : Float) (r s : List Float) → r ≡ map (λ b. fma a b c) bs → s ≡ map (λ b. fma a b c) bs → r ≡ s
+fused-six-determined a bs c r s p q = determined p q
 
 pub fused-determined : (a b c r s : Float) → r ≡ fma a b c → s ≡ fma a b c → r ≡ s
 fused-determined a b c r s p q = determined p q

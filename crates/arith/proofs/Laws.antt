@@ -47,7 +47,7 @@ unlike-plus : (s : Bool) → unlike s false ≡ s
 unlike-plus true = refl
 unlike-plus false = refl
 
-split : (a b : Bool) → a && b ≡ true → T a × T b
+pub split : (a b : Bool) → a && b ≡ true → T a × T b
 split true true h = (tt, tt)
 split true false h = absurd (false≢true h)
 split false b h = absurd (false≢true h)
@@ -115,7 +115,7 @@ pub one-fma : (y z : Float) → fma one y z ≡ add binary32 y z
 one-fma y z = one-of-fma one y z one-is
 
 -- a zero leaves a zero, and adding that rounds once
-none : (s : Bool) → round binary32 s 0 1 ≡ fin s 0 (pos 0)
+pub none : (s : Bool) → round binary32 s 0 1 ≡ fin s 0 (pos 0)
 unfolding round
 none s = refl
 

@@ -10,7 +10,10 @@ mod Values
 mod Placing
 mod Jamming
 mod Combining
-mod Roots
+mod WholeRoots
 mod RootCases
 mod Twice
 mod ByDouble
+mod EightRoots
+mod Places
+mod Whole

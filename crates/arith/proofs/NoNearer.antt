@@ -22,7 +22,7 @@ use Rattle.arith.proofs.Values.{sign, held}
 use Rattle.arith.specs.Root.{isqrt, root, NoFarther}
 use Rattle.arith.proofs.Digits.{size-gt}
 use Rattle.arith.proofs.Rounding.{three, closest-lt, closest-eq, closest-gt, round-pow}
-use Rattle.arith.proofs.Roots.{Floor, isqrt-floor, le-root, double, opened}
+use Rattle.arith.proofs.WholeRoots.{Floor, isqrt-floor, le-root, double, opened}
 use Rattle.arith.proofs.RootCases.{root-pos}
 
 -- ---- a fraction x / b and the nearest whole number: at most half a unit apart

@@ -1,9 +1,12 @@
 // The arithmetic that all else stands on: the square root and the fused multiply-add of `f32`, each
-// equal to its definition over whole numbers for every input. Every `f32` is rounded by integers on
-// bit patterns; of the floats themselves there are tests for NaN and infinity, and a sum in `f64`.
+// equal to its definition over whole numbers for every input, of one number or of several at once. An
+// `f32` is rounded by integers on bit patterns, or by the machine where that is one rounding of the
+// exact number; a guess in floats is tested by whole numbers.
 mod double;
+pub mod eight;
 mod multiply_add;
 mod pattern;
+pub mod six;
 mod square_root;
 
 ghost use mathlib.Core.Path.{_≡_};

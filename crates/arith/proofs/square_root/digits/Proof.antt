@@ -4,16 +4,12 @@ use mathlib.Core.Path.{_≡_, sym, ap, ap₂, _∙_, subst}
 use Prim.Native.Nat.{ℕ, zero, suc, _+_, _*_, _/_, _%_, _^_, _≤_, _<_}
 use native.Mathlib.Nat.{mul-assoc}
 use native.Mathlib.Omega.{arith}
-use lib.Pow.{pow-add}
 use Rattle.arith.specs.Pattern.{lead, sigOf, expOf}
 use Rattle.arith.proofs.Values.{sig-lt}
+use Rattle.arith.proofs.WholeRoots.{finer}
 use Rattle.arith.proofs.RootCases.{sig-pos}
 use Rattle.arith.proofs.square_root.digits.Statement.{statement}
 use Rattle.arith.proofs.square_root.digits.Tie as tie
-
--- i places more
-finer : (s e i : ℕ) → s * 2 ^ (e + i) ≡ s * 2 ^ e * 2 ^ i
-finer s e i = ap (λ (x : ℕ). s * x) (pow-add 2 e i) ∙ sym (mul-assoc s (2 ^ e) (2 ^ i))
 
 -- what the two parts of a pattern are
 module _ (b s e : ℕ) (pos : 0 < b) (top : b < 255 * 2 ^ 23) (s-is : s ≡ sigOf b) (e-is : e ≡ expOf b) where

@@ -7,7 +7,7 @@ use native.Mathlib.Omega.{arith}
 use lib.Dec.{lit≤}
 use lib.Pow.{pow-pos, pow-mono}
 use Rattle.arith.specs.Parts.{NearestRoot}
-use Rattle.arith.proofs.Roots.{times-next}
+use Rattle.arith.proofs.WholeRoots.{times-next}
 use Rattle.arith.proofs.square_root.nearest_root.Statement.{statement}
 use Rattle.arith.proofs.square_root.nearest_root.Tie as tie
 

@@ -9,7 +9,7 @@ use lib.Ieee.{binary32, ofBits, nanBits}
 use Rattle.arith.specs.Pattern.{packed}
 use Rattle.arith.specs.Parts.{NearestRoot}
 use Rattle.arith.proofs.Packing.{packed-no-nan}
-use Rattle.arith.proofs.Roots.{root-lt, a-le, root-bits}
+use Rattle.arith.proofs.WholeRoots.{root-lt, a-le, root-bits}
 use Rattle.arith.proofs.square_root.of_digits.Statement.{statement}
 use Rattle.arith.proofs.square_root.of_digits.Tie as tie
 

@@ -3,7 +3,7 @@ use borrow.Author.Needs.{needs}
 use Prim.Native.Nat.{ℕ, _-_, _*_, _^_, _≤_, _<_}
 use native.Mathlib.Nat.{mul-le-mul, lt-of-not-le}
 use native.Mathlib.Omega.{arith}
-use Rattle.arith.proofs.Roots.{square-suc}
+use Rattle.arith.proofs.WholeRoots.{square-suc}
 use Rattle.arith.proofs.square_root.raised.Statement.{statement}
 use Rattle.arith.proofs.square_root.raised.Tie as tie
 

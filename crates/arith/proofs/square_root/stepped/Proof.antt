@@ -4,7 +4,7 @@ use mathlib.Core.Path.{_≡_}
 use Prim.Native.Nat.{ℕ, zero, suc, _+_, _-_, _*_, _≤_, _<_}
 use native.Mathlib.Omega.{arith}
 use Rattle.arith.specs.Parts.{WholeRoot, NearestRoot}
-use Rattle.arith.proofs.Roots.{square-suc, times-next}
+use Rattle.arith.proofs.WholeRoots.{square-suc, times-next}
 use Rattle.arith.proofs.square_root.stepped.Statement.{statement}
 use Rattle.arith.proofs.square_root.stepped.Tie as tie
 

@@ -181,6 +181,10 @@ module _ (a r : ℕ) (N : NearestRoot a r) where
           let u : r * 2 ^ 24 ≤ r * r = omega arith in
           omega (arith, N .above)
 
+-- i places more
+pub finer : (s e i : ℕ) → s * 2 ^ (e + i) ≡ s * 2 ^ e * 2 ^ i
+finer s e i = ap (λ (x : ℕ). s * x) (pow-add 2 e i) ∙ sym (mul-assoc s (2 ^ e) (2 ^ i))
+
 pub opened : (n : ℕ) → rootOf n ≡ round binary32 false (2 * isqrt 213 n + flag (n - isqrt 213 n * isqrt 213 n)) (2 ^ 150)
 unfolding rootOf
 opened n = refl
