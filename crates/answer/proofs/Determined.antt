@@ -1,8 +1,10 @@
 -- Each promise is an equation, so it fixes its result: any two that it allows are equal. Assumes nothing.
 use mathlib.Core.Path.{_≡_}
-use mathlib.Core.Bool.{Bool}
+use mathlib.Core.Bool.{Bool, _&&_}
 use mathlib.Core.List.{List}
 use Prim.Native.Nat.{ℕ}
+use lib.Dec.{eqb}
+use lib.ListN.{length}
 use lib.Ieee.{Float}
 pub use Rattle.arith.proofs.Determined.{determined}
 use Rattle.face.specs.declared.triangle.Counts.{Counts}
@@ -44,6 +46,9 @@ in-range3-determined v r s p q = determined p q
 
 pub all-in-range-determined : (xs : List Float) (r s : Bool) → r ≡ allInRange xs → s ≡ allInRange xs → r ≡ s
 all-in-range-determined xs r s p q = determined p q
+
+pub twelve-in-range-determined : (l : List Float) (r s : Bool) → r ≡ eqb (length l) 12 && allInRange l → s ≡ eqb (length l) 12 && allInRange l → r ≡ s
+twelve-in-range-determined l r s p q = determined p q
 
 pub is-exactly-determined : (l n each : ℕ) (r s : Bool) → r ≡ exactly l n each → s ≡ exactly l n each → r ≡ s
 is-exactly-determined l n each r s p q = determined p q

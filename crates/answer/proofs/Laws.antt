@@ -1,6 +1,6 @@
 -- What callers cite of tests over lists, of lengths and of answers. Assumes nothing.
 use mathlib.Core.Path.{_≡_, refl, sym, ap, _∙_}
-use mathlib.Core.Bool.{Bool, true, false, _&&_}
+use mathlib.Core.Bool.{Bool, true, false, _&&_, cond}
 use mathlib.Core.List.{List, [], _∷_}
 use Prim.Native.Nat.{ℕ, zero, suc, _+_, _*_, _/_, _%_, _≤_, _<_}
 use native.Mathlib.Nat.{le-div-iff-mul-le, div-lt-iff-lt-mul, div-add-mod', mul-comm, add-zero, div-eq-of-eq-mul-left, mul-mod-left}
@@ -19,6 +19,21 @@ use Rattle.answer.specs.declared.answer.Answer.the-variants.{Done, Refus
 use Rattle.answer.specs.Checks.{every}
 use Rattle.answer.specs.Answers.{after, given, limited, named, roomFor, roomed}
 
+eqb-more : (a b : ℕ) → eqb (a + 1) (b + 1) ≡ eqb a b
+eqb-more a b = go (eqb a b) refl
+  where
+    go : (x : Bool) → eqb a b ≡ x → eqb (a + 1) (b + 1) ≡ x
+    go true e = eq-eqb (a + 1) (b + 1) (omega (arith, eqb-true a b e))
+    go false e = ne-eqb (a + 1) (b + 1) (λ q. eqb-false a b e (omega (arith, q)))
+
+&&-true : (a : Bool) → a && true ≡ a
+&&-true true = refl
+&&-true false = refl
+
+&&-false : (a : Bool) → a && false ≡ false
+&&-false true = refl
+&&-false false = refl
+
 -- ---- a test of each element, read one by one: the first i passed, so the rest decide
 module _ {A : Type 0} (ok : A → Bool) (xs : List A) (z : A) where
   abbrev pub Passed : ℕ → Type 0
@@ -32,6 +47,27 @@ module _ {A : Type 0} (ok : A → Bool) (xs : List A) (z : A) where
 
   pub passed-all : (i : ℕ) → Passed i → length xs ≤ i → true ≡ every ok xs
   passed-all i p h = rw (drop-of-length-le xs h) at (p .1)
+
+  -- the same by the number n of those that passed: all did so far where n is i
+  abbrev pub Counted : ℕ → ℕ → Type 0
+  Counted n i = (n ≤ i) × (i ≤ length xs) × (eqb n i && every ok (drop i xs) ≡ every ok xs)
+
+  pub counted-more : (n i m : ℕ) → Counted n i → i < length xs → m ≡ cond (ok (getD xs i z)) (n + 1) n → Counted m (i + 1)
+  counted-more n i m p h e = go (ok (getD xs i z)) refl
+    where
+      rest : (b : Bool) → ok (getD xs i z) ≡ b → eqb n i && (b && every ok (drop (i + 1) xs)) ≡ every ok xs
+      rest b q = rw (add-one i) (rw (drop-cons xs i z h, q) at (p .2))
+
+      go : (b : Bool) → ok (getD xs i z) ≡ b → Counted m (i + 1)
+      go true q =
+          let r : m ≡ n + 1 = e ∙ ap (λ (b : Bool). cond b (n + 1) n) q in
+          (omega (arith, p .0), omega arith, ap (λ (b : Bool). b && every ok (drop (i + 1) xs)) (ap (λ (k : ℕ). eqb k (i + 1)) r ∙ eqb-more n i) ∙ rest true q)
+      go false q =
+          let r : m ≡ n = e ∙ ap (λ (b : Bool). cond b (n + 1) n) q in
+          (omega (arith, p .0), omega arith, rw (ne-eqb m (i + 1) (omega (arith, p .0))) (sym (&&-false (eqb n i)) ∙ rest false q))
+
+  pub counted-all : (n i : ℕ) → Counted n i → length xs ≤ i → eqb n i ≡ every ok xs
+  counted-all n i p h = sym (&&-true (eqb n i)) ∙ (rw (drop-of-length-le xs h) at (p .2))
 
 &&-left : (a b : Bool) → a && b ≡ true → a ≡ true
 &&-left true b e = refl

@@ -1,5 +1,9 @@
 // The tests of what a job carries. What a number of a list stands for is its caller's to say.
 ghost use mathlib.Core.Path.{_≡_};
+ghost use mathlib.Core.Bool.{cond, _&&_};
+ghost use Prim.Native.Nat.{_+_, _<_};
+ghost use lib.Dec.{eqb};
+ghost use lib.ListN.{length};
 ghost use Rattle.answer.specs.Checks.{inRange, inRange2, inRange3, every, allInRange, exactly, atLeast, namesOption, isNeighbour, cellCount};
 use face::vec::Vec2;
 use face::vec::Vec3;
@@ -46,6 +50,29 @@ pub fn all_in_range(numbers: &[f32]) -> bool
         }
     }
     true
+}
+
+// One more than n if x is in range.
+fn counted(n: u32, x: f32) -> u32
+    requires { ⌜ n < 12 ⌝ }
+    ensures { λ r. ⌜ r ≡ cond (inRange x) (n + 1) n ⌝ }
+{
+    if in_range(x) { n + 1 } else { n }
+}
+
+// Whether there are twelve numbers, six corners, and all are in range. All are looked at, so that the
+// compiler tests four at a time.
+pub fn twelve_in_range(numbers: &[f32]) -> bool
+    ensures { λ r. ⌜ r ≡ eqb (length (now (numbers .entry))) 12 && allInRange (now (numbers .entry)) ⌝ }
+{
+    if numbers.len() != 12 {
+        return false;
+    }
+    let mut n = 0;
+    for k in 0usize..12 {
+        n = counted(n, numbers[k]);
+    }
+    n == 12
 }
 
 // Whether a list of a job has its length: so many numbers for each of so many entries.

@@ -46,6 +46,10 @@ module _ {A : Type 0} where
           ap (λ (x : ℕ). getD (each g n ++ (g n ∷ [])) x d) l ∙ getD-append-add (each g n) (g n ∷ []) 0 d ∙ ap g (sym e)
       go (inr l) r = List·getD-append (each g n) (g n ∷ []) d v (omega (arith, length-each g n)) ∙ r l
 
+  -- what a place of a mapped list holds
+  pub map-at : {B : Type 0} (f : B → A) (l : List B) (z : B) (d : A) (n v : ℕ) → length l ≡ n → v < n → getD (map f l) v d ≡ f (getD l v z)
+  map-at f l z d n v e h = ap (λ (x : List A). getD x v d) (sym (each-map f l z n e)) ∙ each-at (λ k. f (getD l k z)) n v d h
+
   -- a list is each of its elements
   pub each-all : (l : List A) (z : A) (n : ℕ) → length l ≡ n → each (λ k. getD l k z) n ≡ l
   each-all l z n e = each-map (λ x. x) l z n e ∙ map-same l

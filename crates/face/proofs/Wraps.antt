@@ -10,7 +10,7 @@ use Rattle.arith.specs.Root.{root}
 use Rattle.face.specs.declared.vec.Vec2.{Vec2}
 use Rattle.face.specs.Lists.{pick}
 use Rattle.face.specs.Vec.{f0, top, large, times2, square2, length2, alike, reciprocal, serves, ordinary}
-use Rattle.face.specs.Texture.{unitOr, halved, wrapped, oneOfBoth}
+use Rattle.face.specs.Texture.{unitOr, halved, wrapped, oneOfBoth, oneOfThree}
 
 -- both tests passed
 pub both : (x y : Bool) → x && y ≡ true → (x ≡ true) × (y ≡ true)
@@ -55,14 +55,29 @@ no-direction = refl
 pub wrapped-by : (p : Vec2) (k : Float) → k ≡ reciprocal (length2 p) → ordinary k ≡ true → halved (times2 p k) ≡ wrapped p
 wrapped-by p k e h = rw (ordinary-serves k h) at (ap (λ (x : Float). halved (unitOr p x)) e)
 
+-- what is picked or else +0, and gives a direction, was picked
+picked : (b : Bool) (x k : Float) → k ≡ pick b x f0 → ordinary k ≡ true → (b ≡ true) × (k ≡ x)
+picked true x k e h = (refl, e)
+picked false x k e h = absurd (false≢true (sym no-direction ∙ ap ordinary (sym e) ∙ h))
+
+-- of two that are alike, the reciprocal length of one is the other's
+alike-one : (p q : Vec2) (k : Float) → alike p q ≡ true → k ≡ reciprocal (length2 p) → k ≡ reciprocal (length2 q)
+alike-one p q k a r = r ∙ ap (λ (s : Float). reciprocal (root s)) (alike-squares p q a)
+
 -- and the one of both wraps either
 pub both-wrapped : (p q : Vec2) (k : Float) → k ≡ oneOfBoth p q → ordinary k ≡ true → (halved (times2 p k) ≡ wrapped p) × (halved (times2 q k) ≡ wrapped q)
-both-wrapped p q k e h = go (alike p q) refl
+both-wrapped p q k e h =
+    let a = picked (alike p q) (reciprocal (length2 p)) k e h in
+    (wrapped-by p k (a .1) h, wrapped-by q k (alike-one p q k (a .0) (a .1)) h)
+
+-- so does that of two by a third
+pub three-wrapped : (p o : Vec2) (k : Float) → k ≡ oneOfBoth p o → ordinary k ≡ true
+    → (q r : Vec2) (m : Float) → m ≡ oneOfThree p k q r → ordinary m ≡ true → (halved (times2 q m) ≡ wrapped q) × (halved (times2 r m) ≡ wrapped r)
+three-wrapped p o k d g q r m e h =
+    let a = picked (alike q r) (pick (alike q p) k (reciprocal (length2 q))) m e h in
+    let b = a .1 ∙ go (alike q p) refl in
+    (wrapped-by q m b h, wrapped-by r m (alike-one q r m (a .0) b) h)
   where
-    go : (x : Bool) → alike p q ≡ x → (halved (times2 p k) ≡ wrapped p) × (halved (times2 q k) ≡ wrapped q)
-    go true a =
-        let r : k ≡ reciprocal (length2 p) = e ∙ ap (λ (x : Bool). pick x (reciprocal (length2 p)) f0) a in
-        (wrapped-by p k r h, wrapped-by q k (r ∙ ap (λ (s : Float). reciprocal (root s)) (alike-squares p q a)) h)
-    go false a =
-        let r : k ≡ f0 = e ∙ ap (λ (x : Bool). pick x (reciprocal (length2 p)) f0) a in
-        absurd (false≢true (sym no-direction ∙ ap ordinary (sym r) ∙ h))
+    go : (x : Bool) → alike q p ≡ x → pick x k (reciprocal (length2 q)) ≡ reciprocal (length2 q)
+    go true a = picked (alike p o) (reciprocal (length2 p)) k d g .1 ∙ ap (λ (s : Float). reciprocal (root s)) (sym (alike-squares q p a))
+    go false a = refl

@@ -35,3 +35,7 @@ wrapped p = halved (unitOr p (reciprocal (length2 p)))
 -- the one reciprocal length of two points that are alike; else +0, which does not serve
 abbrev pub oneOfBoth : Vec2 → Vec2 → Float
 oneOfBoth p q = pick (alike p q) (reciprocal (length2 p)) f0
+
+-- the same of q and r: that of p, which is k, where all three are alike, their own where they are, and else +0
+abbrev pub oneOfThree : Vec2 → Float → Vec2 → Vec2 → Float
+oneOfThree p k q r = pick (alike q r) (pick (alike q p) k (reciprocal (length2 q))) f0

@@ -108,9 +108,13 @@ length2 a = root (square2 a)
 abbrev pub length3 : Vec3 → Float
 length3 a = root (square3 a)
 
--- two points whose squares have one pattern, and are no NaN
+-- two numbers of one pattern, and no NaN
+abbrev pub same : Float → Float → Bool
+same a b = eq a b && eqb (toBits binary32 a) (toBits binary32 b)
+
+-- two points whose squares are the same
 abbrev pub alike : Vec2 → Vec2 → Bool
-alike a b = eq (square2 a) (square2 b) && eqb (toBits binary32 (square2 a)) (toBits binary32 (square2 b))
+alike a b = same (square2 a) (square2 b)
 
 -- the reciprocal of a length, and when it serves: finite and above 0
 abbrev pub reciprocal : Float → Float

@@ -2,8 +2,11 @@
 ghost use mathlib.Core.Path.{_≡_};
 ghost use mathlib.Core.List.{map};
 ghost use Rattle.arith.specs.Fused.{fma};
-ghost use Rattle.face.specs.Vec.{length2, reciprocal};
-ghost use Rattle.face.specs.Texture.{plain, component, altered, unitOr, halved, wrapped, oneOfBoth};
+ghost use lib.ListN.{getD};
+ghost use lib.Ieee.{nan};
+ghost use Rattle.face.specs.Lists.{pick, each};
+ghost use Rattle.face.specs.Vec.{v2, f1, plus, minus, times, length2, reciprocal, same};
+ghost use Rattle.face.specs.Texture.{plain, component, altered, unitOr, halved, wrapped, oneOfBoth, oneOfThree};
 use crate::vec::Vec2;
 
 pub struct Flip {
@@ -85,14 +88,99 @@ pub fn alter_four(o: UvOptions, uvs: [Vec2; 4]) -> [Vec2; 4]
     out
 }
 
+// The first components of six, and the second: what is done to either is done to all six at once.
+fn firsts(uvs: [Vec2; 6]) -> [f32; 6]
+    ensures { λ r. ⌜ r ≡ map (λ (t : Vec2). t .x) uvs ⌝ }
+{
+    let mut out = [0.0f32; 6];
+    for i in 0usize..6 {
+        out[i] = uvs[i].x;
+    }
+    out
+}
+
+fn seconds(uvs: [Vec2; 6]) -> [f32; 6]
+    ensures { λ r. ⌜ r ≡ map (λ (t : Vec2). t .y) uvs ⌝ }
+{
+    let mut out = [0.0f32; 6];
+    for i in 0usize..6 {
+        out[i] = uvs[i].y;
+    }
+    out
+}
+
+fn joined(us: [f32; 6], vs: [f32; 6]) -> [Vec2; 6]
+    ensures { λ r. ⌜ r ≡ each (λ k. v2 (getD us k nan) (getD vs k nan)) 6 ⌝ }
+{
+    let mut out = [Vec2 { x: 0.0, y: 0.0 }; 6];
+    for i in 0usize..6 {
+        out[i] = Vec2 { x: us[i], y: vs[i] };
+    }
+    out
+}
+
+fn mirrored(us: [f32; 6]) -> [f32; 6]
+    ensures { λ r. ⌜ r ≡ map (minus f1) us ⌝ }
+{
+    let mut out = us;
+    for i in 0usize..6 {
+        out[i] = 1.0 - us[i];
+    }
+    out
+}
+
+fn flipped(flip: bool, us: [f32; 6]) -> [f32; 6]
+    ensures { λ r. ⌜ r ≡ pick flip (map (minus f1) us) us ⌝ }
+{
+    if flip {
+        return mirrored(us);
+    }
+    us
+}
+
+fn moved(scale: f32, offset: f32, us: [f32; 6]) -> [f32; 6]
+    ensures { λ r. ⌜ r ≡ map (λ u. plus (times u scale) offset) us ⌝ }
+{
+    let mut out = us;
+    for i in 0usize..6 {
+        out[i] = us[i] * scale + offset;
+    }
+    out
+}
+
+fn alter_components(
+    flip: bool,
+    scale: f32,
+    offset: f32,
+    min: f32,
+    max: f32,
+    us: [f32; 6],
+) -> [f32; 6]
+    ensures { λ r. ⌜ r ≡ map (component flip scale offset min max) us ⌝ }
+{
+    arith::six::fused_six(max - min, moved(scale, offset, flipped(flip, us)), min)
+}
+
 pub fn alter_six(o: UvOptions, uvs: [Vec2; 6]) -> [Vec2; 6]
     ensures { λ r. ⌜ r ≡ map (altered o) uvs ⌝ }
 {
-    let mut out = uvs;
-    for i in 0usize..6 {
-        out[i] = alter_uv(o, uvs[i]);
-    }
-    out
+    let us = alter_components(
+        o.flip.u,
+        o.scale.x,
+        o.offset.x,
+        o.min.x,
+        o.max.x,
+        firsts(uvs),
+    );
+    let vs = alter_components(
+        o.flip.v,
+        o.scale.y,
+        o.offset.y,
+        o.min.y,
+        o.max.y,
+        seconds(uvs),
+    );
+    joined(us, vs)
 }
 
 pub fn alter_eight(o: UvOptions, uvs: [Vec2; 8]) -> [Vec2; 8]
@@ -130,17 +218,38 @@ fn one_of(p: Vec2) -> f32
     crate::vec::one_over(crate::vec::len2(p))
 }
 
+// Whether two numbers are the same, their signs too.
+fn are_same(a: f32, b: f32) -> bool
+    ensures { λ r. ⌜ r ≡ same a b ⌝ }
+{
+    if a == b {
+        return f32::to_bits(a) == f32::to_bits(b);
+    }
+    false
+}
+
 // The reciprocal length of two corners, where their squares are the same, as those of opposite ones
 // about the origin are; else 0, which gives no direction.
 pub fn one_of_both(p: Vec2, q: Vec2) -> f32
     ensures { λ r. ⌜ r ≡ oneOfBoth p q ⌝ }
 {
     let a = crate::vec::squared2(p);
-    let b = crate::vec::squared2(q);
-    if a == b {
-        if f32::to_bits(a) == f32::to_bits(b) {
-            return crate::vec::one_over(arith::root(a));
+    if are_same(a, crate::vec::squared2(q)) {
+        return crate::vec::one_over(arith::root(a));
+    }
+    0.0
+}
+
+// The same of q and r where that of p is k: a root is spared where p is as far from the origin too.
+pub fn one_of_three(p: Vec2, k: f32, q: Vec2, r: Vec2) -> f32
+    ensures { λ s. ⌜ s ≡ oneOfThree p k q r ⌝ }
+{
+    let a = crate::vec::squared2(q);
+    if are_same(a, crate::vec::squared2(r)) {
+        if are_same(a, crate::vec::squared2(p)) {
+            return k;
         }
+        return crate::vec::one_over(arith::root(a));
     }
     0.0
 }
