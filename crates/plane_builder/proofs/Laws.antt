@@ -1,13 +1,14 @@
 -- A plane's plan, and what laying its one face asks for. Assumes nothing.
 use mathlib.Core.Path.{_≡_, refl, sym, ap, ap₂, _∙_}
-use mathlib.Core.Bool.{Bool, true, false, _&&_, false≢true}
+use mathlib.Core.Bool.{Bool, true, false, _&&_, not, false≢true}
 use borrow.Author.Tests.{eqb-true}
-use lib.Dec.{eqb}
+use lib.Dec.{eqb, leb, ltb}
 use mathlib.Core.List.{List, [], _∷_, map-append}
-use Prim.Native.Nat.{ℕ}
+use Prim.Native.Nat.{ℕ, _+_, _/_}
 use native.Mathlib.Omega.{arith}
-use lib.ListN.{length}
+use lib.ListN.{length, getD}
 use lib.Ieee.{Float}
+use Rattle.face.specs.declared.vec.Vec2.{Vec2}
 use Rattle.face.specs.declared.vec.Vec3.{Vec3}
 use Rattle.face.specs.declared.face.Hexagon.{Hexagon}
 use Rattle.face.specs.declared.inset.Inset.{Inset}
@@ -19,31 +20,35 @@ use Rattle.face.specs.Face.{hexagonOf}
 use Rattle.face.specs.Inset.{insetHexagonOf}
 use Rattle.face.specs.Triangles.{insetCounts, hexagonTriangles}
 use Rattle.face.specs.Vec.{flat}
-use Rattle.face.specs.Texture.{plain}
+use Rattle.face.specs.Texture.{plain, altered}
 use Rattle.face.proofs.Wraps.{both}
 use Rattle.answer.specs.declared.answer.Refusal.the-variants.{Shape, Range}
 use Rattle.answer.specs.declared.answer.Answer.{Answer}
 use Rattle.answer.specs.declared.answer.Answer.the-variants.{Done, Refused}
-use Rattle.answer.specs.Answers.{given, limited}
+use Rattle.answer.specs.Answers.{given, limited, after}
+use Rattle.answer.specs.Checks.{every, allInRange, exactly}
 use Rattle.answer.proofs.Laws.{given-done}
 use Rattle.placement.specs.declared.options.FaceOptions.{FaceOptions}
 use Rattle.placement.specs.declared.placement.Choice3.{Choice3}
 use Rattle.placement.specs.declared.placement.Choice3.the-variants as choice
 use Rattle.placement.specs.declared.placement.Turn.{Turn}
 use Rattle.placement.specs.declared.placement.Turn.the-variants as turn
-use Rattle.placement.specs.Options.{plainOptions, optionAt}
+use Rattle.placement.specs.Options.{means, marksMean, isTable, insetOf, plainOptions, numberAt, markAt, entryAt, optionAt}
 use Rattle.placement.specs.Placing.{moved, placedHexagon, placedPlainHexagon}
 use Rattle.placement.proofs.Plain.{plain-hexagon-placed}
-use Rattle.buffers.specs.Mesh.{Mesh, none, also, sizeOf, measure}
-use Rattle.buffers.specs.Laying.{Buffers, fits, lay, layAll, layOne, laidIfFits}
+use Rattle.buffers.specs.Mesh.{Mesh, none, sizeOf, measure}
+use Rattle.face.specs.Lists.{pick, each, chain}
+use Rattle.buffers.proofs.Laid.{laid-nothing, laid-append, LayingTwo, laying-two-more}
+use Rattle.buffers.specs.Laying.{Buffers, two, fits, laid, lay, layAll, layOne, laidIfFits}
 use Rattle.buffers.specs.Faces.{hexagonMesh, plainHexagonMesh}
 use Rattle.buffers.proofs.Windows.{also-none}
 use Rattle.buffers.specs.Windows.{Own}
 use Rattle.buffers.proofs.Faces.{hexagon-size, Written, written, laid-so, FewIndices, hexagon-few}
 use Rattle.buffers.proofs.Joined.{hexagon-own}
+use Rattle.mesh.specs.Jobs.{roomedIn}
 use Rattle.mesh.proofs.Jobs.{whole-room, face-room}
 use Rattle.plane_builder.specs.declared.Plane.{Plane}
-use Rattle.plane_builder.specs.Plane.{settled, alteredHexagon, alteredPlainHexagon, cornersOf, plainBy, movedPlane, movedAlone, simple, optionsOf, hexagonBy, planeMesh, planeFaces, shapeOf, rangeOf, checked, planned, wholeAnswer, faceAnswer}
+use Rattle.plane_builder.specs.Plane.{settled, alteredHexagon, alteredPlainHexagon, cornersOf, plainBy, movedPlane, movedAlone, onlyMoved, simple, optionsOf, hexagonBy, planeMesh, planeFaces, shapeOf, placeOf, rangeOf, ready, unset, entered, mapped, checked, planned, wholeAnswer, faceAnswer, built}
 
 -- ---- one face alone
 pub alone-size : (m : Mesh) → measure (m ∷ []) ≡ sizeOf m
@@ -60,6 +65,21 @@ alone-one m at B k e = rw e
 -- laid where there is room for the one, the whole is laid
 pub alone-laid : (m : Mesh) (B : Buffers) → fits none (measure (m ∷ [])) B ≡ true → laidIfFits m none B ≡ layAll (m ∷ []) none B
 alone-laid m B e = sym (laid-so m none B (ap (λ (c : Counts). fits none c B) (sym (alone-size m)) ∙ e)) ∙ alone-all m none B
+
+-- ---- three pairs, a corner's and the opposite one's, are six in order
+pub pairs-laid : (t : ℕ → Vec2) (u v w x : List Float) → v ≡ laid (laid u 0 (two (t 0))) 6 (two (t 3))
+    → w ≡ laid (laid v 2 (two (t 1))) 8 (two (t 4)) → x ≡ laid (laid w 4 (two (t 2))) 10 (two (t 5)) → x ≡ laid u 0 (chain (λ k. two (t k)) 6)
+pairs-laid t u v w x d e g =
+    let f : ℕ → List Float = λ k. two (t k) in
+    let h : ℕ → List Float = λ k. two (t (k + 3)) in
+    let at-none : LayingTwo f h 3 u 0 6 0 u = (omega arith, refl, sym (laid-nothing _ 6 ∙ laid-nothing _ 0)) in
+    let at-one : LayingTwo f h 3 u 0 6 1 v = laying-two-more f h 2 (λ k. refl) (λ k. refl) 3 u 0 6 0 u (laid u 0 (f 0)) v (omega arith) at-none (omega arith) refl d in
+    let at-two : LayingTwo f h 3 u 0 6 2 w = laying-two-more f h 2 (λ k. refl) (λ k. refl) 3 u 0 6 1 v (laid v 2 (f 1)) w (omega arith) at-one (omega arith) refl e in
+    let all : LayingTwo f h 3 u 0 6 3 x = laying-two-more f h 2 (λ k. refl) (λ k. refl) 3 u 0 6 2 w (laid w 4 (f 2)) x (omega arith) at-two (omega arith) refl g in
+    all .2 ∙ laid-append u 0 _ _
+
+pub pair-same : (u : List Float) (i j : ℕ) (s t : Vec2) (m n : Vec2) → (s ≡ m) × (t ≡ n) → laid (laid u i (two (altered plain s))) j (two (altered plain t)) ≡ laid (laid u i (two (altered plain m))) j (two (altered plain n))
+pair-same u i j s t m n e = ap₂ (λ (x y : Vec2). laid (laid u i (two (altered plain x))) j (two (altered plain y))) (e .0) (e .1)
 
 -- ---- without an inset: the uvs of the face by itself, and the plane's mesh
 pub plain-hexagon-altered : (o : UvOptions) (h : Hexagon) → alteredHexagon o (insetHexagonOf None h) ≡ insetHexagonOf None (alteredPlainHexagon o h)
@@ -81,43 +101,63 @@ moved-alone (choice.With p) t h = absurd (false≢true h)
 by-default : (ns : List Float) (ms : List ℕ) (k : ℕ) → k ≡ 255 → optionAt ns ms k ≡ plainOptions
 by-default ns ms k e = ap (optionAt ns ms) e
 
--- what its test says
-pub record Simple (job : Plane) (l : List Float) : Type 0 where
-  pub default : job .option ≡ 255
+-- what its tests say
+pub record Moved (job : Plane) (l : List Float) : Type 0 where
   pub twelve : length l ≡ 12
   pub unscaled : job .placement .scale ≡ choice.Absent
   pub unturned : job .placement .turn ≡ turn.Absent
 
-pub simple-is : (job : Plane) (l : List Float) → simple job l ≡ true → Simple job l
-simple-is job l h =
-    let p = both (eqb (job .option) 255) (eqb (length l) 12 && movedAlone (job .placement .scale) (job .placement .turn)) h in
-    let q = both (eqb (length l) 12) (movedAlone (job .placement .scale) (job .placement .turn)) (p .1) in
+pub moved-is : (job : Plane) (l : List Float) → onlyMoved job l ≡ true → Moved job l
+moved-is job l h =
+    let q = both (eqb (length l) 12) (movedAlone (job .placement .scale) (job .placement .turn)) h in
     let m = moved-alone (job .placement .scale) (job .placement .turn) (q .1) in
-    record { default = eqb-true (job .option) 255 (p .0); twelve = eqb-true (length l) 12 (q .0); unscaled = m .0; unturned = m .1 }
+    record { twelve = eqb-true (length l) 12 (q .0); unscaled = m .0; unturned = m .1 }
 
-module _ (job : Plane) (l ns : List Float) (ms : List ℕ) where
+pub simple-is : (job : Plane) (l : List Float) → simple job l ≡ true → (job .option ≡ 255) × (onlyMoved job l ≡ true)
+simple-is job l h = let p = both (eqb (job .option) 255) (onlyMoved job l) h in (eqb-true (job .option) 255 (p .0), p .1)
+
+module _ (job : Plane) (l : List Float) where
   abbrev way : Vec3
   way = moved (job .placement .offset) (flat (job .position))
 
-  -- and it is the plane
-  pub simple-mesh : simple job l ≡ true → plainHexagonMesh (movedPlane way l) ≡ planeMesh job l ns ms
-  simple-mesh h =
-      let s = simple-is job l h in
-      let o : optionsOf job ns ms ≡ plainOptions = by-default ns ms (job .option) (s .default) in
-      let e : movedPlane way l ≡ plainBy job l (optionsOf job ns ms) =
-      ap₂ (λ (x : Choice3) (y : Turn). alteredPlainHexagon plain (placedPlainHexagon (record { scale = x; turn = y; offset = choice.With way }) (hexagonOf (cornersOf l)))) (sym (s .unscaled)) (sym (s .unturned))
-      ∙ ap (plainBy job l) (sym o) in
-      ap plainHexagonMesh e ∙ plain-mesh job l (optionsOf job ns ms) (ap (λ (x : FaceOptions). x .inset) o)
+  moved-plane : (o : FaceOptions) → onlyMoved job l ≡ true → movedPlane (o .uv) way l ≡ plainBy job l o
+  moved-plane o h =
+      let s = moved-is job l h in
+      ap₂ (λ (x : Choice3) (y : Turn). alteredPlainHexagon (o .uv) (placedPlainHexagon (record { scale = x; turn = y; offset = choice.With way }) (hexagonOf (cornersOf l)))) (sym (s .unscaled)) (sym (s .unturned))
 
-  -- where there is room for it, there is for what is written
+  -- where there is room for six vertices and twelve indices, there is for what is written
+  pub moved-room : (B : Buffers) → fits none (insetCounts None 6 4) B ≡ true → Written None 6 hexagonTriangles none (insetCounts None 6 4) B
+  moved-room B f = written None 6 hexagonTriangles none (insetCounts None 6 4) B refl f
+
+  pub moved-laid : (o : FaceOptions) → onlyMoved job l ≡ true → (B : Buffers) (by : Vec3) → by ≡ way → fits none (insetCounts None 6 4) B ≡ true
+      → lay (plainHexagonMesh (movedPlane (o .uv) by l)) none B ≡ laidIfFits (plainHexagonMesh (plainBy job l o)) none B
+  moved-laid o h B by e f =
+      ap (λ (x : Hexagon). lay (plainHexagonMesh x) none B) (ap (λ (x : Vec3). movedPlane (o .uv) x l) e ∙ moved-plane o h)
+      ∙ laid-so (plainHexagonMesh (plainBy job l o)) none B (ap (λ (c : Counts). fits none c B) (hexagon-size None _) ∙ f)
+
+module _ (job : Plane) (l ns : List Float) (ms : List ℕ) where
+  -- without an inset it has six vertices and twelve indices
+  pub unset-fits : (B : Buffers) → optionsOf job ns ms .inset ≡ None → fits none (measure (planeFaces job l ns ms)) B ≡ true → fits none (insetCounts None 6 4) B ≡ true
+  unset-fits B i f =
+      ap (λ (c : Counts). fits none c B) (sym (alone-size (planeMesh job l ns ms) ∙ hexagon-size (optionsOf job ns ms .inset) _ ∙ ap (λ (x : Inset). insetCounts x 6 4) i)) ∙ f
+
+  -- and where it is only moved, that is the plane
+  pub unset-laid : onlyMoved job l ≡ true → optionsOf job ns ms .inset ≡ None → (B : Buffers) (by : Vec3) → by ≡ way job l → lay (plainHexagonMesh (movedPlane (optionsOf job ns ms .uv) by l)) none B ≡ layAll (planeFaces job l ns ms) none B
+  unset-laid h i B by e =
+      ap (λ (m : Mesh). lay m none B) (ap plainHexagonMesh (ap (λ (x : Vec3). movedPlane (optionsOf job ns ms .uv) x l) e ∙ moved-plane job l (optionsOf job ns ms) h) ∙ plain-mesh job l (optionsOf job ns ms) i)
+      ∙ alone-all (planeMesh job l ns ms) none B
+
+  -- the default options have none
+  pub simple-options : simple job l ≡ true → optionsOf job ns ms ≡ plainOptions
+  simple-options h = by-default ns ms (job .option) (simple-is job l h .0)
+
   pub simple-room : simple job l ≡ true → (B : Buffers) → fits none (measure (planeFaces job l ns ms)) B ≡ true → Written None 6 hexagonTriangles none (insetCounts None 6 4) B
-  simple-room h B f =
-      written None 6 hexagonTriangles none (insetCounts None 6 4) B refl
-      (ap (λ (c : Counts). fits none c B) (sym (alone-size (planeMesh job l ns ms) ∙ ap sizeOf (sym (simple-mesh h)) ∙ hexagon-size None _)) ∙ f)
+  simple-room h B f = moved-room job l B (unset-fits B (ap (λ (x : FaceOptions). x .inset) (simple-options h)) f)
 
-  pub simple-laid : simple job l ≡ true → (B : Buffers) (by : Vec3) → by ≡ way → lay (plainHexagonMesh (movedPlane by l)) none B ≡ layAll (planeFaces job l ns ms) none B
+  pub simple-laid : simple job l ≡ true → (B : Buffers) (by : Vec3) → by ≡ way job l → lay (plainHexagonMesh (movedPlane plain by l)) none B ≡ layAll (planeFaces job l ns ms) none B
   simple-laid h B by e =
-      ap (λ (m : Mesh). lay m none B) (ap (λ (x : Vec3). plainHexagonMesh (movedPlane x l)) e ∙ simple-mesh h) ∙ alone-all (planeMesh job l ns ms) none B
+      ap (λ (x : FaceOptions). lay (plainHexagonMesh (movedPlane (x .uv) by l)) none B) (sym (simple-options h))
+      ∙ unset-laid (simple-is job l h .1) (ap (λ (x : FaceOptions). x .inset) (simple-options h)) B by e
 
 -- ---- the plan, as the code tests it
 module _ (job : Plane) (l ns : List Float) (ms : List ℕ) where
@@ -129,6 +169,97 @@ module _ (job : Plane) (l ns : List Float) (ms : List ℕ) where
 
   pub range-decides : shapeOf job l ns ms ≡ true → (y : Bool) → rangeOf job l ns ≡ y → given y Range (limited (measure (planeFaces job l ns ms))) ≡ planned job l ns ms
   range-decides e y f = sym (ap₂ (λ (p q : Bool). given p Shape (given q Range (limited (measure (planeFaces job l ns ms))))) e f)
+
+-- ---- a plane whose plan is known
+pub record Known (job : Plane) (l ns : List Float) (ms : List ℕ) : Type 0 where
+  pub only : onlyMoved job l ≡ true
+  pub shape : shapeOf job l ns ms ≡ true
+  pub range : rangeOf job l ns ≡ true
+  pub bare : optionsOf job ns ms .inset ≡ None
+
+module _ (job : Plane) (l ns : List Float) (ms : List ℕ) (k : Known job l ns ms) where
+  known-plan : planned job l ns ms ≡ Done (insetCounts None 6 4)
+  known-plan =
+      sym (range-decides job l ns ms (k .shape) true (k .range))
+      ∙ sym (plane-counts job l ns ms)
+      ∙ ap (λ (i : Inset). limited (insetCounts i 6 4)) (k .bare)
+
+  pub known-whole : (B : Buffers) → roomedIn B (Done (insetCounts None 6 4)) ≡ wholeAnswer job l ns ms B
+  known-whole B = ap (roomedIn B) (sym known-plan)
+
+  pub known-built : (B : Buffers) (a : Answer) (o : UvOptions) (by : Vec3) → a ≡ roomedIn B (Done (insetCounts None 6 4)) → o ≡ optionsOf job ns ms .uv → by ≡ moved (job .placement .offset) (flat (job .position))
+      → after a B (lay (plainHexagonMesh (movedPlane o by l)) none B) ≡ built job l ns ms B
+  known-built B a o by e u d =
+      ap₂ (λ (x : Answer) (C : Buffers). after x B C) (e ∙ known-whole B)
+      (ap (λ (x : UvOptions). lay (plainHexagonMesh (movedPlane x by l)) none B) u ∙ unset-laid job l ns ms (k .only) (k .bare) B by d)
+
+-- by default, without a table
+empty : {A : Type 0} (xs : List A) → length xs ≡ 0 → xs ≡ []
+empty [] e = refl
+empty (x ∷ xs) e = absurd (omega (arith, e))
+
+module _ (job : Plane) (l ns : List Float) (ms : List ℕ) (h : ready job l ns ms ≡ true) where
+  parts : (simple job l ≡ true) × ((eqb (length ns) 0 && eqb (length ms) 0) && (allInRange l && placeOf job) ≡ true)
+  parts = both (simple job l) ((eqb (length ns) 0 && eqb (length ms) 0) && (allInRange l && placeOf job)) h
+
+  pub ready-plain : plain ≡ optionsOf job ns ms .uv
+  ready-plain = ap (λ (o : FaceOptions). o .uv) (sym (simple-options job l ns ms (parts .0)))
+
+  pub ready-known : Known job l ns ms
+  ready-known =
+      let s = simple-is job l (parts .0) in
+      let m = moved-is job l (s .1) in
+      let p = both (eqb (length ns) 0 && eqb (length ms) 0) (allInRange l && placeOf job) (parts .1) in
+      let q = both (eqb (length ns) 0) (eqb (length ms) 0) (p .0) in
+      let no-numbers : ns ≡ [] = empty ns (eqb-true (length ns) 0 (q .0)) in
+      let no-marks : ms ≡ [] = empty ms (eqb-true (length ms) 0 (q .1)) in
+      record { only = s .1; shape = rw (no-numbers, no-marks, s .0, m .twelve); range = rw no-numbers (p .1); bare = ap (λ (o : FaceOptions). o .inset) (simple-options job l ns ms (parts .0)) }
+
+-- by the one entry of a table
+record Unset (ms : List ℕ) : Type 0 where
+  size : length ms ≡ 4
+  kind : getD ms 2 0 ≡ 0
+  mark0 : ltb (getD ms 0 0) 2 ≡ true
+  mark1 : ltb (getD ms 1 0) 2 ≡ true
+  mark3 : ltb (getD ms 3 0) 2 ≡ true
+
+unset-is : (ms : List ℕ) → unset ms ≡ true → Unset ms
+unset-is ms h =
+    let a = both (eqb (length ms) 4) (eqb (getD ms 2 0) 0 && (ltb (getD ms 0 0) 2 && (ltb (getD ms 1 0) 2 && ltb (getD ms 3 0) 2))) h in
+    let b = both (eqb (getD ms 2 0) 0) (ltb (getD ms 0 0) 2 && (ltb (getD ms 1 0) 2 && ltb (getD ms 3 0) 2)) (a .1) in
+    let c = both (ltb (getD ms 0 0) 2) (ltb (getD ms 1 0) 2 && ltb (getD ms 3 0) 2) (b .1) in
+    let d = both (ltb (getD ms 1 0) 2) (ltb (getD ms 3 0) 2) (c .1) in
+    record { size = eqb-true (length ms) 4 (a .0); kind = eqb-true (getD ms 2 0) 0 (b .0); mark0 = c .0; mark1 = d .0; mark3 = d .1 }
+
+marks-mean : (ms : List ℕ) → Unset ms → marksMean ms ≡ true
+marks-mean ms u = ap (λ (n : ℕ). every (λ i. means i (getD ms i 0)) (each (λ i. i) n)) (u .size) ∙ rw (u .mark0, u .mark1, u .kind, u .mark3)
+
+one-table : (ns : List Float) (ms : List ℕ) → length ns ≡ 9 → Unset ms → isTable ns ms ≡ true
+one-table ns ms e u = ap₂ (λ (n m : ℕ). leb (m / 4) 64 && (exactly m (m / 4) 4 && (exactly n (m / 4) 9 && marksMean ms))) e (u .size) ∙ marks-mean ms u
+
+bare-entry : (ns : List Float) (ms : List ℕ) (k : ℕ) → k ≡ 0 → length ns ≡ 9 → Unset ms → optionAt ns ms k .inset ≡ None
+bare-entry ns ms k z e u =
+    ap (λ (n : ℕ). optionAt ns ms n .inset) z
+    ∙ ap₂ (λ (n m : ℕ). pick (not (eqb 0 255) && (ltb 0 (n / 9) && ltb 0 (m / 4))) (entryAt ns ms 0) plainOptions .inset) e (u .size)
+    ∙ ap (λ (m : ℕ). insetOf m (numberAt ns 0 8) (eqb (markAt ms 0 3) 1)) (u .kind)
+
+module _ (job : Plane) (l ns : List Float) (ms : List ℕ) (h : mapped job l ns ms ≡ true) where
+  pub mapped-first : job .option ≡ 0
+  mapped-first = eqb-true (job .option) 0 (both (eqb (job .option) 0) (eqb (length ns) 9 && unset ms) (both (entered job ns ms) (onlyMoved job l && rangeOf job l ns) h .0) .0)
+
+  pub mapped-known : Known job l ns ms
+  mapped-known =
+      let p = both (entered job ns ms) (onlyMoved job l && rangeOf job l ns) h in
+      let r = both (onlyMoved job l) (rangeOf job l ns) (p .1) in
+      let q = both (eqb (length ns) 9) (unset ms) (both (eqb (job .option) 0) (eqb (length ns) 9 && unset ms) (p .0) .1) in
+      let nine = eqb-true (length ns) 9 (q .0) in
+      let u = unset-is ms (q .1) in
+      record {
+        only = r .0;
+        shape = rw (moved-is job l (r .0) .twelve, one-table ns ms nine u, mapped-first, u .size);
+        range = r .1;
+        bare = bare-entry ns ms (job .option) mapped-first nine u;
+      }
 
 -- the face of the option, laid where there is room, is the plane
 module _ (job : Plane) (l ns : List Float) (ms : List ℕ) (B : Buffers) where

@@ -2,8 +2,8 @@
 use Prim.Native.Nat.{ℕ}
 use mathlib.Core.Bool.{Bool, true, false, _&&_}
 use mathlib.Core.List.{List, [], _∷_, map}
-use lib.Dec.{eqb}
-use lib.ListN.{length}
+use lib.Dec.{eqb, ltb}
+use lib.ListN.{length, getD}
 use lib.Ieee.{Float}
 use Rattle.face.specs.declared.vec.Vec2.{Vec2}
 use Rattle.face.specs.declared.vec.Vec3.{Vec3}
@@ -12,7 +12,7 @@ use Rattle.face.specs.declared.inset.InsetHexagon.{InsetHexagon}
 use Rattle.face.specs.declared.uv_mapping.UvOptions.{UvOptions}
 use Rattle.face.specs.Lists.{each}
 use Rattle.face.specs.Vec.{flat}
-use Rattle.face.specs.Texture.{plain, altered}
+use Rattle.face.specs.Texture.{altered}
 use Rattle.face.specs.Face.{hexagonOf}
 use Rattle.face.specs.Inset.{insetHexagonOf}
 use Rattle.answer.specs.declared.answer.Refusal.the-variants.{Shape, Range}
@@ -58,9 +58,9 @@ hexagonBy job l o =
 abbrev pub plainBy : Plane → List Float → FaceOptions → Hexagon
 plainBy job l o = alteredPlainHexagon (o .uv) (placedPlainHexagon (settled (job .placement) (job .position)) (hexagonOf (cornersOf l)))
 
--- the same where the options are the default ones, and the plane is moved alone
-abbrev pub movedPlane : Vec3 → List Float → Hexagon
-movedPlane by l = alteredPlainHexagon plain (placedPlainHexagon (record { scale = choice.Absent; turn = turn.Absent; offset = choice.With by }) (hexagonOf (cornersOf l)))
+-- the same where the plane is moved alone
+abbrev pub movedPlane : UvOptions → Vec3 → List Float → Hexagon
+movedPlane o by l = alteredPlainHexagon o (placedPlainHexagon (record { scale = choice.Absent; turn = turn.Absent; offset = choice.With by }) (hexagonOf (cornersOf l)))
 
 -- neither scaled nor turned
 abbrev pub movedAlone : Choice3 → Turn → Bool
@@ -68,9 +68,13 @@ movedAlone choice.Absent turn.Absent = true
 movedAlone choice.Absent (turn.Rows a b c) = false
 movedAlone (choice.With s) t = false
 
--- a plane of the default options that is only moved; speed alone hangs on this test
+-- a plane of six corners that is only moved; speed alone hangs on this test and on the next
+abbrev pub onlyMoved : Plane → List Float → Bool
+onlyMoved job l = eqb (length l) 12 && movedAlone (job .placement .scale) (job .placement .turn)
+
+-- and one of the default options
 abbrev pub simple : Plane → List Float → Bool
-simple job l = eqb (job .option) 255 && (eqb (length l) 12 && movedAlone (job .placement .scale) (job .placement .turn))
+simple job l = eqb (job .option) 255 && onlyMoved job l
 
 abbrev pub optionsOf : Plane → List Float → List ℕ → FaceOptions
 optionsOf job ns ms = optionAt ns ms (job .option)
@@ -92,6 +96,22 @@ placeOf job = inRange2 (job .position) && placementInRange (job .placement)
 
 abbrev pub rangeOf : Plane → List Float → List Float → Bool
 rangeOf job l ns = allInRange l && (allInRange ns && (placeOf job))
+
+-- a simple plane with no table and every number in range, so that only room is asked for; speed alone hangs on this test
+abbrev pub ready : Plane → List Float → List Float → List ℕ → Bool
+ready job l ns ms = simple job l && ((eqb (length ns) 0 && eqb (length ms) 0) && (allInRange l && placeOf job))
+
+-- the marks of one entry without an inset
+abbrev pub unset : List ℕ → Bool
+unset ms = eqb (length ms) 4 && (eqb (getD ms 2 0) 0 && (ltb (getD ms 0 0) 2 && (ltb (getD ms 1 0) 2 && ltb (getD ms 3 0) 2)))
+
+-- a table of the plane's one entry, which has no inset
+abbrev pub entered : Plane → List Float → List ℕ → Bool
+entered job ns ms = eqb (job .option) 0 && (eqb (length ns) 9 && unset ms)
+
+-- such a plane that is only moved, with every number in range, so that only room is asked for; speed alone hangs on this test
+abbrev pub mapped : Plane → List Float → List Float → List ℕ → Bool
+mapped job l ns ms = entered job ns ms && (onlyMoved job l && rangeOf job l ns)
 
 -- R11: 1, then 2; it has no neighbour, so no 3
 abbrev pub checked : Plane → List Float → List Float → List ℕ → Answer → Answer

@@ -1,19 +1,26 @@
 // A plane, after plane_builder.rs of hexx: one hexagon with its inset, scaled, turned and moved, and
 // its uvs altered last. A job of one face, whose number is 0.
-mod by_default;
+mod only_moved;
 
 ghost use mathlib.Core.Path.{_≡_};
-ghost use mathlib.Core.Bool.{true};
+ghost use mathlib.Core.Bool.{true, _&&_};
+ghost use lib.Dec.{eqb};
 ghost use Prim.Native.Nat.{_≤_};
 ghost use lib.ListN.{length, getD};
 ghost use lib.Ieee.{nan};
 ghost use Rattle.face.specs.Vec.{flat};
+ghost use Rattle.face.specs.Texture.{plain};
+ghost use Rattle.face.specs.Triangles.{insetCounts};
+ghost use Rattle.face.specs.declared.inset.Inset.the-variants.{None};
+ghost use Rattle.answer.specs.declared.answer.Answer.the-variants.{Done};
+ghost use Rattle.answer.specs.Answers.{roomed, after};
+ghost use Rattle.answer.specs.Checks.{allInRange};
 ghost use Rattle.placement.specs.Placing.{moved};
 ghost use Rattle.mesh.specs.Stored.{uvFrom};
 ghost use Rattle.buffers.specs.Mesh.{none, measure};
-ghost use Rattle.buffers.specs.Laying.{four, fits, layAll, laidIfFits};
+ghost use Rattle.buffers.specs.Laying.{four, fits, lay, layAll, laidIfFits};
 ghost use Rattle.buffers.specs.Faces.{hexagonMesh, plainHexagonMesh};
-ghost use Rattle.plane_builder.specs.Plane.{movedAlone, simple, settled, alteredHexagon, alteredPlainHexagon, cornersOf, hexagonBy, plainBy, planeFaces, shapeOf, placeOf, rangeOf, planned, wholeAnswer, faceAnswer, built, faced};
+ghost use Rattle.plane_builder.specs.Plane.{movedAlone, onlyMoved, simple, unset, entered, mapped, settled, alteredHexagon, alteredPlainHexagon, cornersOf, hexagonBy, plainBy, movedPlane, ready, planeFaces, shapeOf, placeOf, rangeOf, planned, wholeAnswer, faceAnswer, built, faced};
 use answer::answer::Answer;
 use answer::answer::Refusal;
 use face::face::Hexagon;
@@ -213,13 +220,20 @@ fn is_place(job: Plane) -> bool
     false
 }
 
+fn is_filled(job: Plane, numbers: &[f32]) -> bool
+    ensures { λ r. ⌜ r ≡ allInRange (now (numbers .entry)) && placeOf job ⌝ }
+{
+    if answer::check::all_in_range(numbers) {
+        return is_place(job);
+    }
+    false
+}
+
 fn is_in_range(job: Plane, corners: &[f32], numbers: &[f32]) -> bool
     ensures { λ r. ⌜ r ≡ rangeOf job (now (corners .entry)) (now (numbers .entry)) ⌝ }
 {
     if answer::check::all_in_range(corners) {
-        if answer::check::all_in_range(numbers) {
-            return is_place(job);
-        }
+        return is_filled(job, numbers);
     }
     false
 }
@@ -264,7 +278,63 @@ fn put_inset(
     buffers::laying::lay_hexagon(inset, h, start, vertices, normals, uvs, indices);
 }
 
-// Any plane: one face by value, with its inset or without.
+fn moves_alone(s: Placement) -> bool
+    ensures { λ r. ⌜ r ≡ movedAlone (s .scale) (s .turn) ⌝ }
+{
+    let scale = s.scale;
+    let turn = s.turn;
+    match scale {
+        Choice3::Absent => match turn {
+            Turn::Absent => true,
+            Turn::Rows(_, _, _) => false,
+        },
+        Choice3::With(_) => false,
+    }
+}
+
+// Whether the plane is one of six corners that are only moved.
+fn is_moved(job: Plane, corners: &[f32]) -> bool
+    ensures { λ r. ⌜ r ≡ onlyMoved job (now (corners .entry)) ⌝ }
+{
+    let s = job.placement;
+    if corners.len() == 12 {
+        return moves_alone(s);
+    }
+    false
+}
+
+// Without an inset: straight into the buffers where the plane is only moved.
+fn put_unset(
+    job: Plane,
+    corners: &[f32],
+    o: FaceOptions,
+    vertices: &mut [f32],
+    normals: &mut [f32],
+    uvs: &mut [f32],
+    indices: &mut [u16],
+)
+    requires { ⌜ fits none (insetCounts None 6 4) (four (now vertices) (now normals) (now uvs) (now indices)) ≡ true ⌝ }
+    ensures { λ _. ⌜ four (now (vertices .exit)) (now (normals .exit)) (now (uvs .exit)) (now (indices .exit)) ≡ laidIfFits (plainHexagonMesh (plainBy job (now (corners .entry)) o)) none (four (now (vertices .entry)) (now (normals .entry)) (now (uvs .entry)) (now (indices .entry))) ⌝ }
+{
+    if is_moved(job, corners) {
+        let s = job.placement;
+        let offset = s.offset;
+        let uv = o.uv;
+        crate::only_moved::put_mapped(
+            uv,
+            join(offset, job.position),
+            corners,
+            vertices,
+            normals,
+            uvs,
+            indices,
+        );
+        return;
+    }
+    put_plain(job, corners, o, vertices, normals, uvs, indices);
+}
+
+// Any plane, with its inset or without.
 fn put_any(
     job: Plane,
     corners: &[f32],
@@ -281,34 +351,17 @@ fn put_any(
     let o = placement::options::option_at(numbers, marks, job.option);
     let inset = o.inset;
     match inset {
-        Inset::None => put_plain(job, corners, o, vertices, normals, uvs, indices),
+        Inset::None => put_unset(job, corners, o, vertices, normals, uvs, indices),
         _ => put_inset(job, corners, o, vertices, normals, uvs, indices),
     }
 }
 
-fn moves_alone(s: Placement) -> bool
-    ensures { λ r. ⌜ r ≡ movedAlone (s .scale) (s .turn) ⌝ }
-{
-    let scale = s.scale;
-    let turn = s.turn;
-    match scale {
-        Choice3::Absent => match turn {
-            Turn::Absent => true,
-            Turn::Rows(_, _, _) => false,
-        },
-        Choice3::With(_) => false,
-    }
-}
-
-// Whether the plane is one of those that go straight into the buffers.
+// Whether the plane is one of the default options that is only moved.
 fn is_simple(job: Plane, corners: &[f32]) -> bool
     ensures { λ r. ⌜ r ≡ simple job (now (corners .entry)) ⌝ }
 {
-    let s = job.placement;
     if job.option == 255 {
-        if corners.len() == 12 {
-            return moves_alone(s);
-        }
+        return is_moved(job, corners);
     }
     false
 }
@@ -329,7 +382,7 @@ fn put(
     if is_simple(job, corners) {
         let s = job.placement;
         let offset = s.offset;
-        crate::by_default::put_moved(
+        crate::only_moved::put_moved(
             join(offset, job.position),
             corners,
             vertices,
@@ -366,7 +419,134 @@ pub fn plan(job: Plane, corners: &[f32], numbers: &[f32], marks: &[u8]) -> Answe
     Answer::Refused(Refusal::Shape)
 }
 
-pub fn build(
+fn has_no_table(numbers: &[f32], marks: &[u8]) -> bool
+    ensures { λ r. ⌜ r ≡ eqb (length (now (numbers .entry))) 0 && eqb (length (now (marks .entry))) 0 ⌝ }
+{
+    if numbers.len() == 0 {
+        return marks.len() == 0;
+    }
+    false
+}
+
+// Whether nothing but its room is left to ask for. Most planes are such, and their plan is known.
+fn is_ready(job: Plane, corners: &[f32], numbers: &[f32], marks: &[u8]) -> bool
+    ensures { λ r. ⌜ r ≡ ready job (now (corners .entry)) (now (numbers .entry)) (now (marks .entry)) ⌝ }
+{
+    if is_simple(job, corners) {
+        if has_no_table(numbers, marks) {
+            if answer::check::twelve_in_range(corners) {
+                return is_place(job);
+            }
+        }
+    }
+    false
+}
+
+// Whether the marks are those of one entry without an inset.
+fn is_unset(marks: &[u8]) -> bool
+    ensures { λ r. ⌜ r ≡ unset (now (marks .entry)) ⌝ }
+{
+    if marks.len() != 4 {
+        return false;
+    }
+    if marks[2] != 0 {
+        return false;
+    }
+    if marks[0] >= 2 {
+        return false;
+    }
+    if marks[1] >= 2 {
+        return false;
+    }
+    marks[3] < 2
+}
+
+// Whether the table is the plane's one entry, which has no inset.
+fn is_entered(job: Plane, numbers: &[f32], marks: &[u8]) -> bool
+    ensures { λ r. ⌜ r ≡ entered job (now (numbers .entry)) (now (marks .entry)) ⌝ }
+{
+    if job.option == 0 {
+        if numbers.len() == 9 {
+            return is_unset(marks);
+        }
+    }
+    false
+}
+
+// The same of a plane with one entry of its own and no inset, as with a texture's rectangle.
+fn is_mapped(job: Plane, corners: &[f32], numbers: &[f32], marks: &[u8]) -> bool
+    ensures { λ r. ⌜ r ≡ mapped job (now (corners .entry)) (now (numbers .entry)) (now (marks .entry)) ⌝ }
+{
+    if is_entered(job, numbers, marks) {
+        if is_moved(job, corners) {
+            if answer::check::twelve_in_range(corners) {
+                return is_filled(job, numbers);
+            }
+        }
+    }
+    false
+}
+
+// What a plane without an inset takes, or that there is no room for it.
+fn room_for_six(vertices: usize, normals: usize, uvs: usize, indices: usize) -> Answer
+    ensures { λ r. ⌜ r ≡ roomed (Done (insetCounts None 6 4)) vertices normals uvs indices ⌝ }
+{
+    let plan = Answer::Done(Counts {
+        vertices: VertexNumber(6),
+        indices: IndexPlace(12),
+    });
+    answer::answer::room(plan, vertices, normals, uvs, indices)
+}
+
+// A ready plane of the default options, moved by so much.
+fn build_ready(
+    by: Vec3,
+    corners: &[f32],
+    vertices: &mut [f32],
+    normals: &mut [f32],
+    uvs: &mut [f32],
+    indices: &mut [u16],
+) -> Answer
+    requires { ⌜ length (now corners) ≡ 12 ⌝ }
+    ensures answer { λ r. ⌜ r ≡ roomed (Done (insetCounts None 6 4)) (length (now (vertices .entry))) (length (now (normals .entry))) (length (now (uvs .entry))) (length (now (indices .entry))) ⌝ }
+    ensures buffers { λ r. ⌜ four (now (vertices .exit)) (now (normals .exit)) (now (uvs .exit)) (now (indices .exit)) ≡ after r (four (now (vertices .entry)) (now (normals .entry)) (now (uvs .entry)) (now (indices .entry))) (lay (plainHexagonMesh (movedPlane plain by (now (corners .entry)))) none (four (now (vertices .entry)) (now (normals .entry)) (now (uvs .entry)) (now (indices .entry)))) ⌝ }
+{
+    let answer = room_for_six(vertices.len(), normals.len(), uvs.len(), indices.len());
+    match answer {
+        Answer::Refused(why) => Answer::Refused(why),
+        Answer::Done(counts) => {
+            crate::only_moved::put_moved(by, corners, vertices, normals, uvs, indices);
+            Answer::Done(counts)
+        }
+    }
+}
+
+// The same by an entry of the table.
+fn build_mapped(
+    o: UvOptions,
+    by: Vec3,
+    corners: &[f32],
+    vertices: &mut [f32],
+    normals: &mut [f32],
+    uvs: &mut [f32],
+    indices: &mut [u16],
+) -> Answer
+    requires { ⌜ length (now corners) ≡ 12 ⌝ }
+    ensures answer { λ r. ⌜ r ≡ roomed (Done (insetCounts None 6 4)) (length (now (vertices .entry))) (length (now (normals .entry))) (length (now (uvs .entry))) (length (now (indices .entry))) ⌝ }
+    ensures buffers { λ r. ⌜ four (now (vertices .exit)) (now (normals .exit)) (now (uvs .exit)) (now (indices .exit)) ≡ after r (four (now (vertices .entry)) (now (normals .entry)) (now (uvs .entry)) (now (indices .entry))) (lay (plainHexagonMesh (movedPlane o by (now (corners .entry)))) none (four (now (vertices .entry)) (now (normals .entry)) (now (uvs .entry)) (now (indices .entry)))) ⌝ }
+{
+    let answer = room_for_six(vertices.len(), normals.len(), uvs.len(), indices.len());
+    match answer {
+        Answer::Refused(why) => Answer::Refused(why),
+        Answer::Done(counts) => {
+            crate::only_moved::put_mapped(o, by, corners, vertices, normals, uvs, indices);
+            Answer::Done(counts)
+        }
+    }
+}
+
+// Any plane: the plan, then the room, then the one face.
+fn build_any(
     job: Plane,
     corners: &[f32],
     numbers: &[f32],
@@ -402,6 +582,84 @@ pub fn build(
             Answer::Done(counts)
         }
     }
+}
+
+// A plane with one entry of its own, or any.
+fn build_other(
+    job: Plane,
+    corners: &[f32],
+    numbers: &[f32],
+    marks: &[u8],
+    vertices: &mut [f32],
+    normals: &mut [f32],
+    uvs: &mut [f32],
+    indices: &mut [u16],
+) -> Answer
+    ensures answer { λ r. ⌜ r ≡ wholeAnswer job (now (corners .entry)) (now (numbers .entry)) (now (marks .entry)) (four (now (vertices .entry)) (now (normals .entry)) (now (uvs .entry)) (now (indices .entry))) ⌝ }
+    ensures buffers { λ _. ⌜ four (now (vertices .exit)) (now (normals .exit)) (now (uvs .exit)) (now (indices .exit)) ≡ built job (now (corners .entry)) (now (numbers .entry)) (now (marks .entry)) (four (now (vertices .entry)) (now (normals .entry)) (now (uvs .entry)) (now (indices .entry))) ⌝ }
+{
+    if is_mapped(job, corners, numbers, marks) {
+        let s = job.placement;
+        let offset = s.offset;
+        let o = placement::options::option_at(numbers, marks, 0);
+        let uv = o.uv;
+        return build_mapped(
+            uv,
+            join(offset, job.position),
+            corners,
+            vertices,
+            normals,
+            uvs,
+            indices,
+        );
+    }
+    build_any(
+        job,
+        corners,
+        numbers,
+        marks,
+        vertices,
+        normals,
+        uvs,
+        indices,
+    )
+}
+
+pub fn build(
+    job: Plane,
+    corners: &[f32],
+    numbers: &[f32],
+    marks: &[u8],
+    vertices: &mut [f32],
+    normals: &mut [f32],
+    uvs: &mut [f32],
+    indices: &mut [u16],
+) -> Answer
+    ensures answer { λ r. ⌜ r ≡ wholeAnswer job (now (corners .entry)) (now (numbers .entry)) (now (marks .entry)) (four (now (vertices .entry)) (now (normals .entry)) (now (uvs .entry)) (now (indices .entry))) ⌝ }
+    ensures buffers { λ _. ⌜ four (now (vertices .exit)) (now (normals .exit)) (now (uvs .exit)) (now (indices .exit)) ≡ built job (now (corners .entry)) (now (numbers .entry)) (now (marks .entry)) (four (now (vertices .entry)) (now (normals .entry)) (now (uvs .entry)) (now (indices .entry))) ⌝ }
+{
+    if is_ready(job, corners, numbers, marks) {
+        let s = job.placement;
+        let offset = s.offset;
+        return build_ready(
+            join(offset, job.position),
+            corners,
+            vertices,
+            normals,
+            uvs,
+            indices,
+        );
+    }
+    build_other(
+        job,
+        corners,
+        numbers,
+        marks,
+        vertices,
+        normals,
+        uvs,
+        indices,
+    )
 }
 
 pub fn face(

@@ -1,12 +1,9 @@
--- `build`: the plan, then the room, then the one face. Assumes nothing.
+-- `build`: the short way of a ready plane, or that of any other. Assumes nothing.
 use borrow.Author.Needs.{needs}
 use mathlib.Core.Path.{sym, _∙_}
 use denote.Ref.{now}
-use Rattle.answer.proofs.Laws.{after-done, after-refused}
-use Rattle.buffers.specs.Mesh.{none}
-use Rattle.buffers.specs.Laying.{four, layAll}
-use Rattle.plane_builder.specs.Plane.{planeFaces, wholeAnswer}
-use Rattle.plane_builder.proofs.Laws.{whole-ready}
+use Rattle.buffers.specs.Laying.{four}
+use Rattle.plane_builder.proofs.Laws.{moved-is, known-whole, known-built, ready-plain, ready-known}
 use Rattle.plane_builder.proofs.build.Statement.{statement}
 use Rattle.plane_builder.proofs.build.Tie as tie
 
@@ -16,24 +13,25 @@ build-spec =
     (tie.spec
     (λ c κs. search needs)
     (λ c κs. search needs)
-    (λ c. search needs)
-    (λ c. search needs)
     (λ c κs.
-    let a = c .before .before .before .before .before .before .before .before .before .before .before .before .before .before .before .before .args in
-    let B = four (now (a .vertices)) (now (a .normals)) (now (a .uvs)) (now (a .indices)) in
-    let e = sym (rw (c .before .before .before .before .before .before .before .before .plan .ensures) at (c .before .before .before .before .before .before .before .room .ensures)) ∙ c .before .before .before .before .before .answer2 .given .1 in
-    whole-ready (a .job) (now (a .corners)) (now (a .numbers)) (now (a .marks)) B _ e)
-    (λ c.
-    let a = c .before .before .before .before .before .before .before .before .before .before .before .before .args in
-    let B = four (now (a .vertices)) (now (a .normals)) (now (a .uvs)) (now (a .indices)) in
-    let e = sym (rw (c .before .before .before .before .plan .ensures) at (c .before .before .before .room .ensures)) ∙ c .before .answer .given .1 in
-    (sym e, after-refused (wholeAnswer (a .job) (now (a .corners)) (now (a .numbers)) (now (a .marks)) B) B (layAll (planeFaces (a .job) (now (a .corners)) (now (a .numbers)) (now (a .marks))) none B) e))
+    let a = c .before .before .before .before .before .before .before .before .before .before .before .before .before .before .before .args in
+    moved-is (a .job) (now (a .corners)) (ready-known (a .job) (now (a .corners)) (now (a .numbers)) (now (a .marks)) (sym (c .before .before .before .before .before .before .before .is-ready .ensures) ∙ c .before .before .before .before .before .before .if1 .taken) .only) .twelve)
     (λ c. search needs)
     (λ c. search needs)
     (λ c. search needs)
     (λ c. search needs)
     (λ c.
-    let a = c .before .before .before .before .before .before .before .before .before .before .before .before .before .before .before .before .before .before .before .before .before .before .before .before .before .args in
-    let B = four (now (a .vertices)) (now (a .normals)) (now (a .uvs)) (now (a .indices)) in
-    let e = sym (rw (c .before .before .before .before .before .before .before .before .before .before .before .before .before .before .before .before .before .plan .ensures) at (c .before .before .before .before .before .before .before .before .before .before .before .before .before .before .before .before .room .ensures)) ∙ c .before .before .before .before .before .before .before .before .before .before .before .before .before .before .answer2 .given .1 in
-    (sym e, c .before .before .before .before .before .before .before .before .put .ensures ∙ after-done (wholeAnswer (a .job) (now (a .corners)) (now (a .numbers)) (now (a .marks)) B) B (layAll (planeFaces (a .job) (now (a .corners)) (now (a .numbers)) (now (a .marks))) none B) e)))
+    let a = c .before .before .before .before .before .before .before .before .before .before .before .before .before .before .before .before .before .before .before .before .before .before .before .before .args in
+    let h = sym (c .before .before .before .before .before .before .before .before .before .before .before .before .before .before .before .before .is-ready .ensures) ∙ c .before .before .before .before .before .before .before .before .before .before .before .before .before .before .before .if1 .taken in
+    let k = ready-known (a .job) (now (a .corners)) (now (a .numbers)) (now (a .marks)) h in
+    let b = c .before .before .before .before .before .before .before .before .build-ready in
+    let B = four (now (a .vertices)) (now (a .normals)) (now (a .uvs)) (now (a .indices)) in (
+      b .ensures .0 ∙ known-whole (a .job) (now (a .corners)) (now (a .numbers)) (now (a .marks)) k B,
+      b .ensures .1 ∙ known-built (a .job) (now (a .corners)) (now (a .numbers)) (now (a .marks)) k B (b .result) _ _ (b .ensures .0) (ready-plain (a .job) (now (a .corners)) (now (a .numbers)) (now (a .marks)) h) (c .before .before .before .before .before .before .before .before .before .before .before .before .before .join .ensures),
+    ))
+    (λ c κs. search needs)
+    (λ c. search needs)
+    (λ c. search needs)
+    (λ c. search needs)
+    (λ c. search needs)
+    (λ c. search needs))

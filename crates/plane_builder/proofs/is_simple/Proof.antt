@@ -9,6 +9,5 @@ is-simple-spec =
     tie.close
     (tie.spec
     (λ c κs. search needs)
-    (λ c. rw (eq-eqb _ _ (c .before .before .if1 .taken), eq-eqb _ _ (c .before .if2 .taken)) (c .moves-alone .ensures))
-    (λ c. rw (eq-eqb _ _ (c .before .if1 .taken), ne-eqb _ _ (c .if2 .left)))
+    (λ c. rw (eq-eqb _ _ (c .before .if1 .taken)) (c .is-moved .ensures))
     (λ c. rw (ne-eqb _ _ (c .if1 .left))))

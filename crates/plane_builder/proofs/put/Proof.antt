@@ -4,7 +4,7 @@ use native.Mathlib.Omega.{arith}
 use mathlib.Core.Path.{sym, _∙_}
 use denote.Ref.{now}
 use Rattle.buffers.specs.Laying.{four}
-use Rattle.plane_builder.proofs.Laws.{simple-is, simple-room, simple-laid}
+use Rattle.plane_builder.proofs.Laws.{moved-is, simple-is, simple-room, simple-laid}
 use Rattle.plane_builder.proofs.put.Statement.{statement}
 use Rattle.plane_builder.proofs.put.Tie as tie
 
@@ -19,7 +19,7 @@ put-spec =
     let B = four (now (a .vertices)) (now (a .normals)) (now (a .uvs)) (now (a .indices)) in
     let h = sym (c .before .before .before .before .before .before .before .is-simple .ensures) ∙ c .before .before .before .before .before .before .if1 .taken in
     let r = simple-room (a .job) (now (a .corners)) (now (a .numbers)) (now (a .marks)) h B (c .before .before .before .before .before .before .before .before .before .before .before .before .before .before .before .pre) in
-    (simple-is (a .job) (now (a .corners)) h .twelve, omega (arith, r .vertices), omega (arith, r .normals), omega (arith, r .uvs), omega (arith, r .indices)))
+    (moved-is (a .job) (now (a .corners)) (simple-is (a .job) (now (a .corners)) h .1) .twelve, omega (arith, r .vertices), omega (arith, r .normals), omega (arith, r .uvs), omega (arith, r .indices)))
     (λ c. search needs)
     (λ c. search needs)
     (λ c. search needs)

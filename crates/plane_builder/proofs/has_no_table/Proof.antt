@@ -1,0 +1,11 @@
+-- `has_no_table`: the tests of the definition. Assumes nothing.
+use borrow.Author.Tests.{eq-eqb, ne-eqb}
+use Rattle.plane_builder.proofs.has_no_table.Statement.{statement}
+use Rattle.plane_builder.proofs.has_no_table.Tie as tie
+
+pub has-no-table-spec : {M : Type 1} → statement M
+has-no-table-spec =
+    tie.close
+    (tie.spec
+    (λ c. rw (eq-eqb _ _ (c .if1 .taken)))
+    (λ c. rw (ne-eqb _ _ (c .if1 .left))))
