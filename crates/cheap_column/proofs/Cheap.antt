@@ -1,18 +1,20 @@
 -- The cheap column: its plan, and what laying its one face writes. Assumes nothing.
 use mathlib.Core.Path.{_≡_, refl, sym, ap, ap₂, _∙_}
-use mathlib.Core.Bool.{Bool, _&&_}
-use mathlib.Core.List.{List, _++_}
-use Prim.Native.Nat.{ℕ, _+_, _*_, _<_, _≤_}
-use native.Mathlib.Nat.{zero-add, mul-suc, mul-le-mul, le-refl}
+use mathlib.Core.Bool.{Bool, true, _&&_}
+use mathlib.Core.Logic.{_⊎_, inl, inr}
+use mathlib.Core.List.{List, _++_, map}
+use Prim.Native.Nat.{ℕ, zero, suc, _+_, _*_, _<_, _≤_}
+use native.Mathlib.Nat.{zero-add, mul-suc, mul-le-mul, le-refl, eq-or-lt-of-le}
 use native.Mathlib.Omega.{arith}
 use borrow.Author.Tests.{eq-eqb, ne-eqb, eqb-true, ltb-true}
 use lib.Dec.{eqb, ltb}
-use lib.ListN.{length, getD}
-use lib.Ieee.{Float}
+use lib.ListN.{length, getD, List·getD-map}
+use lib.Ieee.{Float, nan}
+use Rattle.arith.specs.Root.{root}
 use Rattle.face.specs.declared.triangle.Triangle.{Triangle}
 use Rattle.face.specs.declared.triangle.Counts.{Counts}
 use Rattle.face.specs.Lists.{each, chain}
-use Rattle.face.specs.Vec.{f0, upright}
+use Rattle.face.specs.Vec.{f0, upright, reciprocal, ordinary}
 use Rattle.face.specs.Texture.{wrapped}
 use Rattle.face.specs.Triangles.{noTriangle, counts}
 use Rattle.answer.specs.declared.answer.Refusal.the-variants.{Shape, Range}
@@ -128,3 +130,29 @@ column-own job l i h =
 -- and it has four indices a vertex, no more
 pub column-few : (job : CheapColumn) (l : List Float) → FewIndices (cheapMesh job l)
 column-few job l = omega arith
+
+-- ---- six at once
+pub up-to-five : (P : ℕ → Type 0) → P 0 → P 1 → P 2 → P 3 → P 4 → P 5 → (k : ℕ) → k ≤ 5 → P k
+up-to-five P a b c d e f zero h = a
+up-to-five P a b c d e f (suc zero) h = b
+up-to-five P a b c d e f (suc (suc zero)) h = c
+up-to-five P a b c d e f (suc (suc (suc zero))) h = d
+up-to-five P a b c d e f (suc (suc (suc (suc zero)))) h = e
+up-to-five P a b c d e f (suc (suc (suc (suc (suc zero))))) h = f
+up-to-five P a b c d e f (suc (suc (suc (suc (suc (suc k)))))) h = absurd (let g : suc (suc (suc (suc (suc (suc k))))) ≤ 5 = h in omega arith)
+
+pub root-at : (l : List Float) (k : ℕ) → getD (map root l) k nan ≡ root (getD l k nan)
+unfolding root
+root-at l k = List·getD-map root l k nan
+
+-- each of the first k is ordinary
+module _ (spans : List Float) where
+  abbrev pub Ordinary : ℕ → Type 0
+  Ordinary k = (k ≤ 6) × ((j : ℕ) → j < k → ordinary (reciprocal (getD spans j nan)) ≡ true)
+
+  pub ordinary-more : (k : ℕ) → Ordinary k → k < 6 → ordinary (reciprocal (getD spans k nan)) ≡ true → Ordinary (k + 1)
+  ordinary-more k y h z = (omega arith, λ j l. go j (eq-or-lt-of-le (let g : j ≤ k = omega arith in g)))
+    where
+      go : (j : ℕ) → (j ≡ k) ⊎ (j < k) → ordinary (reciprocal (getD spans j nan)) ≡ true
+      go j (inl i) = ap (λ (x : ℕ). ordinary (reciprocal (getD spans x nan))) i ∙ z
+      go j (inr l) = y .1 j l

@@ -6,7 +6,7 @@ use Rattle.answer.proofs.Laws.{after-done, after-refused}
 use Rattle.buffers.specs.Mesh.{none}
 use Rattle.buffers.specs.Laying.{four, layOne}
 use Rattle.cheap_column.specs.CheapColumn.{cheapFaces, faceAnswer}
-use Rattle.cheap_column.proofs.Cheap.{face-ready, face-laid}
+use Rattle.cheap_column.proofs.Cheap.{face-ready, face-laid, column-laid}
 use Rattle.cheap_column.proofs.face.Statement.{statement}
 use Rattle.cheap_column.proofs.face.Tie as tie
 
@@ -20,12 +20,26 @@ face-spec =
     (λ c. search needs)
     (λ c. search needs)
     (λ c κs.
-    let a = c .before .before .before .before .before .before .before .before .before .before .before .before .before .before .before .args in
+    let a = c .before .before .before .before .before .before .before .before .before .before .before .args in
     let l = now (a .corners) in
     let B = four (now (a .vertices)) (now (a .normals)) (now (a .uvs)) (now (a .indices)) in
-    let e = sym (rw (c .before .before .before .before .before .before .before .before .name .ensures, c .before .before .before .before .before .before .before .before .before .plan .ensures) at (c .before .before .before .before .before .before .before .room .ensures)) ∙ c .before .before .before .before .before .answer2 .given .1 in
+    let e = sym (rw (c .before .before .before .before .name .ensures, c .before .before .before .before .before .plan .ensures) at (c .before .before .before .room .ensures)) ∙ c .before .answer2 .given .1 in
     let r = face-ready (a .job) l B (a .number) _ e in
-    (r .twelve, r .vertices, r .normals, r .uvs, r .indices))
+    r .twelve)
+    (λ c κs.
+    let a = c .before .before .before .before .before .before .before .before .before .before .before .before .before .before .args in
+    let l = now (a .corners) in
+    let B = four (now (a .vertices)) (now (a .normals)) (now (a .uvs)) (now (a .indices)) in
+    let e = sym (rw (c .before .before .before .before .before .before .before .name .ensures, c .before .before .before .before .before .before .before .before .plan .ensures) at (c .before .before .before .before .before .before .room .ensures)) ∙ c .before .before .before .before .answer2 .given .1 in
+    let r = face-ready (a .job) l B (a .number) _ e in
+    (r .twelve, r .vertices, r .normals))
+    (λ c κs.
+    let a = c .before .before .before .before .before .before .before .before .before .before .before .before .before .before .before .before .before .before .before .before .before .args in
+    let l = now (a .corners) in
+    let B = four (now (a .vertices)) (now (a .normals)) (now (a .uvs)) (now (a .indices)) in
+    let e = sym (rw (c .before .before .before .before .before .before .before .before .before .before .before .before .before .before .name .ensures, c .before .before .before .before .before .before .before .before .before .before .before .before .before .before .before .plan .ensures) at (c .before .before .before .before .before .before .before .before .before .before .before .before .before .room .ensures)) ∙ c .before .before .before .before .before .before .before .before .before .before .before .answer2 .given .1 in
+    let r = face-ready (a .job) l B (a .number) _ e in
+    (r .twelve, r .uvs, r .indices, c .before .before .before .before .before .before .before .before .before .lengths .ensures))
     (λ c.
     let a = c .before .before .before .before .before .before .before .before .before .before .before .args in
     let l = now (a .corners) in
@@ -37,8 +51,10 @@ face-spec =
     (λ c. search needs)
     (λ c. search needs)
     (λ c.
-    let a = c .before .before .before .before .before .before .before .before .before .before .before .before .before .before .before .before .before .before .before .before .before .before .before .before .args in
+    let a = c .before .before .before .before .before .before .before .before .before .before .before .before .before .before .before .before .before .before .before .before .before .before .before .before .before .before .args in
     let l = now (a .corners) in
     let B = four (now (a .vertices)) (now (a .normals)) (now (a .uvs)) (now (a .indices)) in
-    let e = sym (rw (c .before .before .before .before .before .before .before .before .before .before .before .before .before .before .before .before .before .name .ensures, c .before .before .before .before .before .before .before .before .before .before .before .before .before .before .before .before .before .before .plan .ensures) at (c .before .before .before .before .before .before .before .before .before .before .before .before .before .before .before .before .room .ensures)) ∙ c .before .before .before .before .before .before .before .before .before .before .before .before .before .before .answer2 .given .1 in
-    (sym e, c .before .before .before .before .before .before .before .before .put-column .ensures ∙ face-laid (a .job) l B (a .number) _ e ∙ after-done (faceAnswer (a .job) l (a .number) B) B (layOne (cheapFaces (a .job) l) (a .number) none B) e)))
+    let e = sym (rw (c .before .before .before .before .before .before .before .before .before .before .before .before .before .before .before .before .before .before .before .name .ensures, c .before .before .before .before .before .before .before .before .before .before .before .before .before .before .before .before .before .before .before .before .plan .ensures) at (c .before .before .before .before .before .before .before .before .before .before .before .before .before .before .before .before .before .before .room .ensures)) ∙ c .before .before .before .before .before .before .before .before .before .before .before .before .before .before .before .before .answer2 .given .1 in
+    let p = c .before .before .before .before .before .before .before .before .before .before .before .put-rings .ensures in
+    let q = c .before .before .before .before .put-rest .ensures in
+    (sym e, column-laid (a .job) l B (p .0) (p .1) (q .0) (q .1) ∙ face-laid (a .job) l B (a .number) _ e ∙ after-done (faceAnswer (a .job) l (a .number) B) B (layOne (cheapFaces (a .job) l) (a .number) none B) e)))
