@@ -59,15 +59,28 @@ pub struct MeshBuffers<'a> {
     pub indices: &'a mut [u16],
 }
 
+/// The bytes up to which a list is cheaper to fill than to get filled.
+const SHORT: usize = 1 << 15;
+
+/// So many of a zero.
+fn zeros<T: Copy>(zero: T, count: usize) -> Vec<T> {
+    if count > SHORT / size_of::<T>() {
+        return vec![zero; count];
+    }
+    let mut list = Vec::with_capacity(count);
+    list.resize(count, zero);
+    list
+}
+
 impl Mesh {
     /// A mesh of so many vertices and indices, all 0, to be written to.
     #[must_use]
     pub fn zeroed(counts: Counts) -> Self {
         Self {
-            vertices: vec![[0.0; 3]; counts.vertices],
-            normals: vec![[0.0; 3]; counts.vertices],
-            uvs: vec![[0.0; 2]; counts.vertices],
-            indices: vec![0; counts.indices],
+            vertices: zeros([0.0; 3], counts.vertices),
+            normals: zeros([0.0; 3], counts.vertices),
+            uvs: zeros([0.0; 2], counts.vertices),
+            indices: zeros(0, counts.indices),
         }
     }
 
