@@ -1,8 +1,10 @@
 -- A promise that is an equation fixes its result: any two that it allows are equal. As values: the logic has one NaN, so its pattern is left open. Assumes nothing.
-use mathlib.Core.Path.{_≡_, sym, _∙_}
+use mathlib.Core.Path.{_≡_, sym, ap₂, _∙_}
+use mathlib.Core.Bool.{Bool}
 use mathlib.Core.List.{List, map}
 use lib.Ieee.{Float}
-use Rattle.arith.specs.Root.{root}
+use Rattle.arith.specs.Root.{root, areMiddling}
+use Rattle.arith.specs.declared.eight.Found.{Found}
 use Rattle.arith.specs.Fused.{fma}
 
 pub determined : {A : Type 0} {r s d : A} → r ≡ d → s ≡ d → r ≡ s
@@ -11,8 +13,8 @@ determined p q = p ∙ sym q
 pub root-determined : (x r s : Float) → r ≡ root x → s ≡ root x → r ≡ s
 root-determined x r s p q = determined p q
 
-pub roots-determined : (xs r s : List Float) → r ≡ map root xs → s ≡ map root xs → r ≡ s
-roots-determined xs r s p q = determined p q
+pub roots-determined : (xs : List Float) (r s : Found) → (r .all ≡ map root xs) × (r .middling ≡ areMiddling (map root xs)) → (s .all ≡ map root xs) × (s .middling ≡ areMiddling (map root xs)) → r ≡ s
+roots-determined xs r s p q = ap₂ (λ (l : List Float) (m : Bool). record { all = l; middling = m }) (determined (p .0) (q .0)) (determined (p .1) (q .1))
 
 pub fused-six-determined : (a : Float) (bs : List Float) (c : Float) (r s : List Float) → r ≡ map (λ b. fma a b c) bs → s ≡ map (λ b. fma a b c) bs → r ≡ s
 fused-six-determined a bs c r s p q = determined p q

@@ -1,17 +1,26 @@
 -- Roots that are tested by differences which wrap, and lists of them. Assumes nothing.
 use mathlib.Core.Path.{_≡_, refl, sym, ap, ap₂, _∙_}
+use mathlib.Core.Bool.{Bool, true, false, _&&_, false≢true}
 use mathlib.Core.List.{List, [], _∷_, _++_, map, map-append, append-nil}
 use Prim.Native.Nat.{ℕ, zero, suc, _+_, _-_, _*_, _/_, _%_, _^_, _≤_, _<_}
-use native.Mathlib.Nat.{mul-le-mul, mod-eq-of-lt}
+use native.Mathlib.Nat.{mul-le-mul, mul-le-mul-right, mod-eq-of-lt}
 use native.Mathlib.Numerals.{add-one}
 use native.Mathlib.Omega.{arith}
 use lib.ListN.{length, getD, set, take, drop, length-map, drop-of-length-le}
 use lib.Seq.{drop-cons, set-at, append-snoc, take-suc, take-all, length-take-le}
 use lib.Bits.{bitOr, or-add-and, and-le-l, and-le-r}
-use lib.Ieee.{Float, nan, binary32, ofBits}
+use lib.Dec.{T}
+use lib.Pow.{pow-pos, pow-mono}
+use lib.Ieee.{Float, nan, binary32, ofBits, toBits, fits, le}
+use lib.Ieee.Bits.{is-true}
+use lib.Ieee.Fits.{and-i}
+use lib.Ieee.Exact.{HasValue}
+use lib.Ieee.Order.{le-of-values}
 use Rattle.arith.specs.Pattern.{lead, sigOf, expOf}
-use Rattle.arith.specs.Root.{root, rootOf}
+use Rattle.arith.specs.Root.{root, rootOf, leastMiddling, mostMiddling, middling, areMiddling}
 use Rattle.arith.specs.Parts.{NearestRoot}
+use Rattle.arith.proofs.Values.{sig-lt}
+use Rattle.arith.proofs.RootCases.{above-value}
 use Rattle.arith.proofs.WholeRoots.{times-next, finer, root-ge, root-lt, a-ge, a-le, root-bits}
 
 -- ---- two differences that are below 2 ^ 32, so that neither wrapped
@@ -70,36 +79,91 @@ module _ (bits g r : ℕ) (lo : 2 ^ 29 < bits) (hi : bits < 255 * 2 ^ 23) (N : N
   r-lt : r < 2 ^ 24
   r-lt = root-lt _ r N (a-le (sigAt bits) e _ r (omega arith) (omega arith) (omega arith) (omega arith) a-is N)
 
-  pub root-pattern : (r + (bits / 2 + 0x1f40_0000) / 2 ^ 23 * 2 ^ 23) % 2 ^ 32 ≡ g → (2 ^ 29 < g) × (ofBits binary32 g ≡ rootOf (sigOf bits * 2 ^ expOf bits * 2 ^ 149))
-  root-pattern i =
-      let h : g ≡ e / 2 * 2 ^ 23 + r = omega (arith, r-lt) in (
+  sum-is : (r + (bits / 2 + 0x1f40_0000) / 2 ^ 23 * 2 ^ 23) % 2 ^ 32 ≡ g → g ≡ e / 2 * 2 ^ 23 + r
+  sum-is i = omega (arith, r-lt)
+
+  pub root-pattern : bits ≤ 192 * 2 ^ 23 → (r + (bits / 2 + 0x1f40_0000) / 2 ^ 23 * 2 ^ 23) % 2 ^ 32 ≡ g
+      → (95 * 2 ^ 23 ≤ g) × (g < 160 * 2 ^ 23) × (ofBits binary32 g ≡ rootOf (sigOf bits * 2 ^ expOf bits * 2 ^ 149))
+  root-pattern most i =
+      let h : g ≡ e / 2 * 2 ^ 23 + r = sum-is i in (
         omega (arith, r-ge),
+        omega (arith, r-lt),
         ap (ofBits binary32) h
             ∙ root-bits (sigAt bits) e _ r (omega arith) (omega arith) (omega arith) (omega arith) a-is N
             ∙ ap rootOf value,
       )
 
--- ---- the misses of the first i, laid over each other: if nothing is there, they are the roots
+-- ---- a number of a middling size, by its pattern
+least-value : HasValue leastMiddling false 1 (2 ^ 32)
+unfolding ofBits
+least-value = (refl, refl)
+
+most-value : HasValue mostMiddling false (2 ^ 33) 1
+unfolding ofBits
+most-value = (refl, refl)
+
+pub middling-pattern : (x : Float) (b : ℕ) → T (fits binary32 x) → toBits binary32 x ≡ b → 95 * 2 ^ 23 ≤ b → b < 160 * 2 ^ 23 → middling x ≡ true
+middling-pattern x b f p lo hi =
+    let v = above-value x b f p (omega arith) in
+    let s : 2 ^ 23 ≤ sigOf b = omega (arith, sig-is b (omega arith)) in
+    let l : 2 ^ 23 * 2 ^ 94 ≤ sigOf b * 2 ^ expOf b = mul-le-mul s (pow-mono (let k : 94 ≤ expOf b = omega arith in k)) in
+    let t : sigOf b ≤ 2 ^ 24 = omega (arith, sig-lt b) in
+    let u : sigOf b * 2 ^ expOf b ≤ 2 ^ 24 * 2 ^ 158 = mul-le-mul t (pow-mono (let k : expOf b ≤ 158 = omega arith in k)) in
+    is-true (middling x) (and-i (le leastMiddling x) (le x mostMiddling)
+    (le-of-values leastMiddling x 1 (2 ^ 32) _ (2 ^ 149) (pow-pos 32) (pow-pos 149) least-value v (mul-le-mul-right (2 ^ 32) l))
+    (le-of-values x mostMiddling _ (2 ^ 149) (2 ^ 33) 1 (pow-pos 149) (pow-pos 0) v most-value (mul-le-mul-right 1 u)))
+
+middling-snoc : (l : List Float) (x : Float) → areMiddling l ≡ true → middling x ≡ true → areMiddling (l ++ (x ∷ [])) ≡ true
+middling-snoc [] x h e = rw e
+middling-snoc (y ∷ l) x h e = go (middling y) h (λ k. middling-snoc l x k e)
+  where
+    go : (b : Bool) → b && areMiddling l ≡ true → (areMiddling l ≡ true → areMiddling (l ++ (x ∷ [])) ≡ true) → b && areMiddling (l ++ (x ∷ [])) ≡ true
+    go true k more = more k
+    go false k more = absurd (false≢true k)
+
+-- ---- the misses of the first i, laid over each other: if nothing is there, they are the roots, and of a middling size
 or-nothing : (a b : ℕ) → bitOr a b ≡ 0 → (a ≡ 0) × (b ≡ 0)
 or-nothing a b e = (omega (arith, or-add-and a b, e, and-le-r a b), omega (arith, or-add-and a b, e, and-le-l a b))
 
 module _ (xs gs : List Float) where
   abbrev pub Right : ℕ → ℕ → Type 0
-  Right i n = (i ≤ 8) × (n ≡ 0 → take i gs ≡ map root (take i xs))
+  Right i n = (i ≤ 8) × (n ≡ 0 → (take i gs ≡ map root (take i xs)) × (areMiddling (take i gs) ≡ true))
 
   pub right-more : (i n m : ℕ) → Right i n → i < 8 → length xs ≡ 8 → length gs ≡ 8
-      → (m ≡ 0 → getD gs i nan ≡ root (getD xs i nan)) → Right (i + 1) (bitOr n m)
+      → (m ≡ 0 → (getD gs i nan ≡ root (getD xs i nan)) × (middling (getD gs i nan) ≡ true)) → Right (i + 1) (bitOr n m)
   right-more i n m y h l k z = (
     omega arith,
     λ e.
         let o = or-nothing n m e in
-        rw (add-one i, take-suc gs i nan (omega arith), take-suc xs i nan (omega arith), map-append, y .1 (o .0), z (o .1)),
+        let f = y .1 (o .0) in
+        let g = z (o .1) in
+        let t : take (i + 1) gs ≡ take i gs ++ (getD gs i nan ∷ []) = rw (add-one i) (take-suc gs i nan (omega arith)) in (
+          t ∙ rw (add-one i, take-suc xs i nan (omega arith), map-append, f .0, g .0),
+          ap areMiddling t ∙ middling-snoc (take i gs) (getD gs i nan) (f .1) (g .1),
+        ),
   )
 
-  pub right-done : (i n : ℕ) → Right i n → 8 ≤ i → length xs ≡ 8 → length gs ≡ 8 → n ≡ 0 → gs ≡ map root xs
+  pub right-done : (i n : ℕ) → Right i n → 8 ≤ i → length xs ≡ 8 → length gs ≡ 8 → n ≡ 0 → (gs ≡ map root xs) × (areMiddling gs ≡ true)
   right-done i n y h l k e =
       let j : i ≡ 8 = omega arith in
-      sym (take-all 8 gs (omega arith)) ∙ rw j at (y .1 e) ∙ ap (map root) (take-all 8 xs (omega arith))
+      let f = y .1 e in
+      let a : take i gs ≡ gs = rw j (take-all 8 gs (omega arith)) in
+      let b : take i xs ≡ xs = rw j (take-all 8 xs (omega arith)) in
+      (sym a ∙ f .0 ∙ ap (map root) b, ap areMiddling (sym a) ∙ f .1)
+
+-- ---- a test of each, one by one: the first i are of a middling size, so the rest decide
+module _ (rs : List Float) where
+  abbrev pub Passed : ℕ → Type 0
+  Passed i = (i ≤ 8) × (areMiddling (drop i rs) ≡ areMiddling rs)
+
+  pub passed-more : (i : ℕ) → Passed i → i < 8 → length rs ≡ 8 → middling (getD rs i nan) ≡ true → Passed (i + 1)
+  passed-more i p h l e = (omega arith, rw (add-one i) (rw (drop-cons rs i nan (omega arith), e) at (p .1)))
+
+  pub passed-not : (i : ℕ) → Passed i → i < 8 → length rs ≡ 8 → middling (getD rs i nan) ≡ false → false ≡ areMiddling rs
+  passed-not i p h l e = rw (drop-cons rs i nan (omega arith), e) at (p .1)
+
+  pub passed-all : (i : ℕ) → Passed i → 8 ≤ i → length rs ≡ 8 → true ≡ areMiddling rs
+  passed-all i p h l = rw (drop-of-length-le rs (let g : length rs ≤ i = omega arith in g)) at (p .1)
 
 -- ---- an array of which the first i are the roots
 module _ (xs d : List Float) where

@@ -65,12 +65,10 @@ sig-pos b h = go (b / 2 ^ 23) refl
     go zero e = omega arith
     go (suc x) e = omega arith
 
--- a value above zero
-pub above : (x : Float) (b : ℕ) → T (fits binary32 x) → toBits binary32 x ≡ b → 0 < b → b < 255 * 2 ^ 23 → root x ≡ rootOf (sigOf b * 2 ^ expOf b * 2 ^ 149)
-above x b f e p u =
-    root-pos x (sigOf b * 2 ^ expOf b)
-    (subst (λ (v : ℕ). HasValue x false v (2 ^ 149)) worth-is (subst (λ (s : Bool). HasValue x s (worth (toBits binary32 x)) (2 ^ 149)) clear (held x f fin-x)))
-    (mul-pos (sig-pos b p) (pow-pos (expOf b)))
+-- a value that is no less than zero
+pub above-value : (x : Float) (b : ℕ) → T (fits binary32 x) → toBits binary32 x ≡ b → b < 255 * 2 ^ 23 → HasValue x false (sigOf b * 2 ^ expOf b) (2 ^ 149)
+above-value x b f e u =
+    subst (λ (v : ℕ). HasValue x false v (2 ^ 149)) worth-is (subst (λ (s : Bool). HasValue x s (worth (toBits binary32 x)) (2 ^ 149)) clear (held x f fin-x))
   where
     fin-x : T (finite x)
     fin-x = subst (λ (v : Float). T (finite v)) (ofBits-toBits binary32 x f) (finite-bits (toBits binary32 x) (subst (λ (y : ℕ). y < 255 * 2 ^ 23) (sym e) u))
@@ -80,6 +78,9 @@ above x b f e p u =
 
     worth-is : worth (toBits binary32 x) ≡ sigOf b * 2 ^ expOf b
     worth-is = ap (λ (y : ℕ). sigOf y * 2 ^ expOf y) (ap (λ (y : ℕ). y % 2 ^ 31) e ∙ mod-eq-of-lt (let g : b < 2 ^ 31 = omega arith in g))
+
+pub above : (x : Float) (b : ℕ) → T (fits binary32 x) → toBits binary32 x ≡ b → 0 < b → b < 255 * 2 ^ 23 → root x ≡ rootOf (sigOf b * 2 ^ expOf b * 2 ^ 149)
+above x b f e p u = root-pos x (sigOf b * 2 ^ expOf b) (above-value x b f e u) (mul-pos (sig-pos b p) (pow-pos (expOf b)))
 
 fields-neg : (x t : ℕ) → 0 < x + t → root (ofFields binary32 true x t) ≡ nan
 unfolding ofFields root

@@ -210,7 +210,8 @@ fn lengths(corners: &[f32]) -> [f32; 8]
     requires { ⌜ length (now corners) ≡ 12 ⌝ }
     ensures { λ r. ⌜ ((k : ℕ) → k ≤ 5 → getD r k nan ≡ length2 (cornerFrom (now (corners .entry)) k)) ⌝ }
 {
-    arith::eight::roots(squares(corners))
+    let found = arith::eight::roots(squares(corners));
+    found.all
 }
 
 fn is_ordinary_length(span: f32) -> bool

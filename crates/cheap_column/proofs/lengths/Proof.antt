@@ -16,4 +16,4 @@ lengths-spec =
     (tie.spec
     (λ c κs. search needs)
     (λ c κs. search needs)
-    (λ c k h. ap (λ (l : List Float). getD l k nan) (c .roots .ensures) ∙ root-at (c .before .squares .result) k ∙ ap root (c .before .squares .ensures k h)))
+    (λ c k h. ap (λ (l : List Float). getD l k nan) (c .roots .ensures .0) ∙ root-at (c .before .squares .result) k ∙ ap root (c .before .squares .ensures k h)))

@@ -1,4 +1,4 @@
--- `are_roots`: while nothing is missed, the numbers so far are the roots. Assumes nothing.
+-- `are_roots`: while nothing is missed, the numbers so far are the roots, and of a middling size. Assumes nothing.
 use borrow.Author.Needs.{needs}
 use Prim.Native.Nat.{_-_}
 use mathlib.Core.Path.{_≡_, refl}
@@ -20,7 +20,7 @@ are-roots-spec =
     (tie.spec
     Inv
     μ
-    (λ c. (omega arith, λ e. refl))
+    (λ c. (omega arith, λ e. (refl, refl)))
     (λ c. search needs)
     (λ c. search needs)
     (λ c. search needs)

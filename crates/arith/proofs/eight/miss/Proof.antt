@@ -32,10 +32,10 @@ returns c e =
     let u = c .before .before in
     let b = bits u in
     let lo : 2 ^ 29 < b = omega (arith, u .before .wrapping-sub-u32 .ensures, u .before .before .fits .bits) in
-    let hi : b ≤ 3 * 2 ^ 29 = omega (arith, u .before .wrapping-sub-u32 .ensures) in
+    let hi : b ≤ 192 * 2 ^ 23 = omega (arith, u .before .wrapping-sub-u32 .ensures) in
     let N : NearestRoot (a u) (r u) = nearest (a u) (r u) _ _ (small u) (short u) (c .before .wrapping-sub-u64 .ensures) (c .wrapping-sub-u642 .ensures) (omega arith) (omega arith) in
-    let p = root-pattern b (u .before .before .args .g) (r u) lo (omega arith) N (u .wrapping-sub-u322 .ensures) in
-    (lo, omega arith, p .0, p .1)
+    let p = root-pattern b (u .before .before .args .g) (r u) lo (omega arith) N hi (u .wrapping-sub-u322 .ensures) in
+    (lo, omega arith, p .0, p .1, p .2)
 
 pub miss-spec : {M : Type 1} → statement M
 miss-spec =
