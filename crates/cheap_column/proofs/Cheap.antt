@@ -1,21 +1,23 @@
 -- The cheap column: its plan, and what laying its one face writes. Assumes nothing.
 use mathlib.Core.Path.{_≡_, refl, sym, ap, ap₂, _∙_}
 use mathlib.Core.Bool.{Bool, true, _&&_}
-use mathlib.Core.Logic.{_⊎_, inl, inr}
-use mathlib.Core.List.{List, _++_, map}
+use mathlib.Core.List.{List, [], _∷_, _++_, map}
 use Prim.Native.Nat.{ℕ, zero, suc, _+_, _*_, _<_, _≤_}
-use native.Mathlib.Nat.{zero-add, mul-suc, mul-le-mul, le-refl, eq-or-lt-of-le}
+use native.Mathlib.Nat.{zero-add}
 use native.Mathlib.Omega.{arith}
 use borrow.Author.Tests.{eq-eqb, ne-eqb, eqb-true, ltb-true}
 use lib.Dec.{eqb, ltb}
-use lib.ListN.{length, getD, List·getD-map}
+use lib.ListN.{length, getD, length-map}
 use lib.Ieee.{Float, nan}
-use Rattle.arith.specs.Root.{root}
+use Rattle.arith.specs.Root.{root, middling, areMiddling}
 use Rattle.face.specs.declared.triangle.Triangle.{Triangle}
 use Rattle.face.specs.declared.triangle.Counts.{Counts}
-use Rattle.face.specs.Lists.{each, chain}
-use Rattle.face.specs.Vec.{f0, upright, reciprocal, ordinary}
-use Rattle.face.specs.Texture.{wrapped}
+use Rattle.face.specs.Lists.{each}
+use Rattle.face.specs.declared.vec.Vec2.{Vec2}
+use Rattle.face.specs.Vec.{f0, off2, times2, upright, square2, length2, reciprocal, ordinary}
+use Rattle.face.specs.Texture.{halved, wrapped}
+use Rattle.face.proofs.Filling.{each-same, each-at, map-at}
+use Rattle.face.proofs.Wraps.{both as both-true, middling-ordinary, wrapped-by}
 use Rattle.face.specs.Triangles.{noTriangle, counts}
 use Rattle.answer.specs.declared.answer.Refusal.the-variants.{Shape, Range}
 use Rattle.answer.specs.declared.answer.Answer.{Answer}
@@ -25,14 +27,14 @@ use Rattle.answer.specs.Checks.{exactly}
 use Rattle.answer.proofs.Laws.{Roomy, every-at, given-done, done-limited, named-done, roomed-done}
 use Rattle.buffers.specs.Mesh.{none, measure}
 use Rattle.buffers.specs.Laying.{Buffers, four, three, two, corners, spread, laid, lay, layAll, layOne}
-use Rattle.buffers.proofs.Laid.{laid-append, spread-append, spread-each, chain-length, LayingTwo, laying-two-more, laying-two-done}
+use Rattle.buffers.proofs.Laid.{laid-append, spread-append, spread-all, Laying, laying-done}
 use Rattle.buffers.specs.Windows.{Own}
 use Rattle.buffers.proofs.Order.{same-four}
 use Rattle.buffers.proofs.Rooms.{both}
 use Rattle.buffers.proofs.Faces.{FewIndices}
 use Rattle.cheap_column.specs.declared.CheapColumn.{CheapColumn}
 use Rattle.mesh.specs.Stored.{cornerFrom}
-use Rattle.cheap_column.specs.CheapColumn.{outward, cheapTriangles, cheapMesh, cheapFaces, rangeOf, checked, planned, wholeAnswer, faceAnswer}
+use Rattle.cheap_column.specs.CheapColumn.{outward, wrapsBy, cheapTriangles, cheapMesh, cheapFaces, rangeOf, checked, planned, wholeAnswer, faceAnswer}
 
 -- ---- the plan
 module _ (job : CheapColumn) (l : List Float) where
@@ -45,23 +47,20 @@ module _ (job : CheapColumn) (l : List Float) where
   pub range-decides : length l ≡ 12 → (y : Bool) → rangeOf job l ≡ y → given y Range (limited (counts 12 48)) ≡ planned job l
   range-decides h y e = sym (ap₂ (λ (p q : Bool). given p Shape (given q Range (limited (measure (cheapFaces job l))))) (eq-eqb (length l) 12 h) e)
 
--- ---- two rings of six, of which a turn lays one piece in each: the places of the foot come after all those of the top
-module _ {A : Type 0} (f : A → List Float) (n : ℕ) (top foot : ℕ → A) (l : List Float) where
-  abbrev pub Rings : ℕ → List Float → Type 0
-  Rings k now = LayingTwo (λ j. f (top j)) (λ j. f (foot j)) 6 l 0 (n * 6) k now
+-- ---- six points in a row, and one row after the other
+module _ {A : Type 0} (f : A → List Float) where
+  pub laying-all : (xs : List A) (z : A) (m : ℕ) (l : List Float) (at k : ℕ) (now : List Float) → Laying (λ j. f (getD xs j z)) m l at k now → m ≤ k → length xs ≡ m → now ≡ laid l at (spread f xs)
+  laying-all xs z m l at k now y u e = laying-done _ m l at k now y u ∙ ap (laid l at) (sym (spread-all f xs z m e))
 
-  module _ (p : (x : A) → length (f x) ≡ n) where
-    pub rings-more : (k : ℕ) (now next : List Float) → Rings k now → k < 6 → next ≡ laid (laid now (n * k) (f (top k))) (n * 6 + n * k) (f (foot k)) → Rings (k + 1) next
-    rings-more k now next y u e =
-        let room : n * k + n ≤ n * 6 = rw (← mul-suc n k) (mul-le-mul (le-refl n) u) in
-        laying-two-more _ _ n (λ j. p (top j)) (λ j. p (foot j)) 6 l 0 (n * 6) k now (laid now (n * k) (f (top k))) next (rw zero-add room) y u (rw zero-add) e
-
-    pub rings-done : (k : ℕ) (now : List Float) → Rings k now → 6 ≤ k → now ≡ laid l 0 (spread f (each top 6 ++ each foot 6))
-    rings-done k now y u =
-        laying-two-done _ _ 6 l 0 (n * 6) k now y u
-        ∙ ap (λ (x : ℕ). laid (laid l 0 (chain (λ j. f (top j)) 6)) x (chain (λ j. f (foot j)) 6)) (sym (zero-add _ ∙ chain-length (λ j. f (top j)) n (λ j. p (top j)) 6))
-        ∙ laid-append l 0 (chain (λ j. f (top j)) 6) (chain (λ j. f (foot j)) 6)
-        ∙ ap (laid l 0) (sym (spread-append f (each top 6) (each foot 6) ∙ ap₂ _++_ (spread-each f top 6) (spread-each f foot 6)))
+  -- the second from where the first ends
+  pub two-rows : (l : List Float) {now next : List Float} (at : ℕ) {x y : List A} (xs ys : List A) → length (spread f xs) ≡ at
+      → now ≡ laid l 0 (spread f x) → x ≡ xs → next ≡ laid now at (spread f y) → y ≡ ys → next ≡ laid l 0 (spread f (xs ++ ys))
+  two-rows l {now} at xs ys e p a q b =
+      q
+      ∙ ap (λ (z : List A). laid now at (spread f z)) b
+      ∙ ap₂ (λ (m : List Float) (k : ℕ). laid m k (spread f ys)) (p ∙ ap (λ (z : List A). laid l 0 (spread f z)) a) (sym (zero-add _ ∙ e))
+      ∙ laid-append l 0 (spread f xs) (spread f ys)
+      ∙ ap (laid l 0) (sym (spread-append f xs ys))
 
 -- ---- what is laid: two rings in each list of floats, and the table
 module _ (job : CheapColumn) (l : List Float) (B : Buffers) where
@@ -141,18 +140,28 @@ up-to-five P a b c d e f (suc (suc (suc (suc zero)))) h = e
 up-to-five P a b c d e f (suc (suc (suc (suc (suc zero))))) h = f
 up-to-five P a b c d e f (suc (suc (suc (suc (suc (suc k)))))) h = absurd (let g : suc (suc (suc (suc (suc (suc k))))) ≤ 5 = h in omega arith)
 
-pub root-at : (l : List Float) (k : ℕ) → getD (map root l) k nan ≡ root (getD l k nan)
-unfolding root
-root-at l k = List·getD-map root l k nan
+-- ---- of many that are of a middling size, each is
+middling-at : (rs : List Float) (k : ℕ) → areMiddling rs ≡ true → k < length rs → middling (getD rs k nan) ≡ true
+middling-at [] k m h = absurd (let g : k < 0 = h in omega arith)
+middling-at (r ∷ rs) zero m h = both-true (middling r) (areMiddling rs) m .0
+middling-at (r ∷ rs) (suc k) m h = middling-at rs k (both-true (middling r) (areMiddling rs) m .1) (let g : suc k < suc (length rs) = h in omega arith)
 
--- each of the first k is ordinary
-module _ (spans : List Float) where
-  abbrev pub Ordinary : ℕ → Type 0
-  Ordinary k = (k ≤ 6) × ((j : ℕ) → j < k → ordinary (reciprocal (getD spans j nan)) ≡ true)
+-- ---- the six corners by numbers at hand
+module _ (l : List Float) where
+  -- one over each of their lengths, if these are of a middling size
+  pub ones-wrap : {spans ones : List Float} (squares : List Float) → length squares ≡ 8 → ((k : ℕ) → k ≤ 5 → getD squares k nan ≡ square2 (cornerFrom l k)) → spans ≡ map root squares → areMiddling (map root squares) ≡ true → ones ≡ map reciprocal spans
+      → wrapsBy l ones
+  ones-wrap {spans} {ones} squares n s r m o k h =
+      let p : k < 8 = omega arith in
+      let a : getD spans k nan ≡ length2 (cornerFrom l k) = ap (λ (x : List Float). getD x k nan) r ∙ map-at root squares nan nan 8 k n p ∙ ap root (s k h) in
+      let b : getD ones k nan ≡ reciprocal (length2 (cornerFrom l k)) =
+      ap (λ (x : List Float). getD x k nan) o ∙ map-at reciprocal spans nan nan 8 k (ap length r ∙ length-map squares root ∙ n) p ∙ ap reciprocal a in
+      wrapped-by (cornerFrom l k) (getD ones k nan) b
+      (ap ordinary b ∙ middling-ordinary _ (ap middling (sym a ∙ ap (λ (x : List Float). getD x k nan) r) ∙ middling-at (map root squares) k m (omega (arith, length-map squares root, n, p))))
 
-  pub ordinary-more : (k : ℕ) → Ordinary k → k < 6 → ordinary (reciprocal (getD spans k nan)) ≡ true → Ordinary (k + 1)
-  ordinary-more k y h z = (omega arith, λ j l. go j (eq-or-lt-of-le (let g : j ≤ k = omega arith in g)))
-    where
-      go : (j : ℕ) → (j ≡ k) ⊎ (j < k) → ordinary (reciprocal (getD spans j nan)) ≡ true
-      go j (inl i) = ap (λ (x : ℕ). ordinary (reciprocal (getD spans x nan))) i ∙ z
-      go j (inr l) = y .1 j l
+  pub by-wrapped : {cs ts : List Vec2} (ones : List Float) → cs ≡ each (cornerFrom l) 6 → ts ≡ each (λ k. halved (times2 (getD cs k off2) (getD ones k nan))) 6 → wrapsBy l ones → ts ≡ each (λ k. wrapped (cornerFrom l k)) 6
+  by-wrapped ones c t w =
+      t
+      ∙ each-same _ _ 6 (λ k h.
+      ap (λ (p : Vec2). halved (times2 p (getD ones k nan))) (ap (λ (x : List Vec2). getD x k off2) c ∙ each-at (cornerFrom l) 6 k off2 h)
+      ∙ w k (omega arith))

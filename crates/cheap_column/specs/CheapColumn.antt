@@ -1,15 +1,16 @@
 -- The cheap column, a job of one face; M1 to R18 are rows of docs/TRACE.md. Definitions only.
-use Prim.Native.Nat.{ℕ}
+use Prim.Native.Nat.{ℕ, _≤_}
+use mathlib.Core.Path.{_≡_}
 use mathlib.Core.Bool.{Bool, _&&_}
 use mathlib.Core.List.{List, [], _∷_, _++_}
-use lib.ListN.{length}
-use lib.Ieee.{Float}
+use lib.ListN.{length, getD}
+use lib.Ieee.{Float, nan}
 use Rattle.face.specs.declared.vec.Vec2.{Vec2}
 use Rattle.face.specs.declared.vec.Vec3.{Vec3}
 use Rattle.face.specs.declared.triangle.Triangle.{Triangle}
 use Rattle.face.specs.Lists.{each}
-use Rattle.face.specs.Vec.{f0, minus3, upright}
-use Rattle.face.specs.Texture.{wrapped}
+use Rattle.face.specs.Vec.{f0, minus3, times2, upright}
+use Rattle.face.specs.Texture.{halved, wrapped}
 use Rattle.face.specs.Triangles.{tri}
 use Rattle.answer.specs.declared.answer.Refusal.the-variants.{Shape, Range}
 use Rattle.answer.specs.declared.answer.Answer.{Answer}
@@ -29,6 +30,10 @@ outward job p = minus3 (upright p (job .height)) (upright (job .centre) (job .he
 abbrev pub vertexOver : CheapColumn → List Float → Float → ℕ → Vertex
 vertexOver job l y k =
     record { position = upright (cornerFrom l k) y; normal = outward job (cornerFrom l k); uv = wrapped (cornerFrom l k) }
+
+-- each corner times the number of its place, halved, is its uv
+abbrev pub wrapsBy : List Float → List Float → Type 0
+wrapsBy l ones = (k : ℕ) → k ≤ 5 → halved (times2 (cornerFrom l k) (getD ones k nan)) ≡ wrapped (cornerFrom l k)
 
 -- M1: the top, then two triangles a side
 abbrev pub cheapTriangles : List Triangle

@@ -2,17 +2,17 @@
 // top and the sides share. It has no bottom.
 ghost use mathlib.Core.Path.{_≡_};
 ghost use mathlib.Core.Bool.{true};
-ghost use mathlib.Core.List.{_++_};
-ghost use Prim.Native.Nat.{ℕ, _+_, _*_, _≤_, _<_};
+ghost use mathlib.Core.List.{_++_, map};
+ghost use Prim.Native.Nat.{ℕ, _+_, _*_, _≤_};
 ghost use lib.ListN.{length, getD};
 ghost use lib.Ieee.{nan};
 ghost use Rattle.face.specs.Lists.{each};
-ghost use Rattle.face.specs.Vec.{f0, upright, square2, length2, reciprocal, ordinary};
-ghost use Rattle.face.specs.Texture.{wrapped};
+ghost use Rattle.face.specs.Vec.{f0, off2, minus3, times2, upright, square2, reciprocal};
+ghost use Rattle.face.specs.Texture.{halved, wrapped};
 ghost use Rattle.answer.specs.Answers.{roomed};
 ghost use Rattle.buffers.specs.Laying.{four, three, two, corners, spread, laid};
 ghost use Rattle.mesh.specs.Stored.{cornerFrom};
-ghost use Rattle.cheap_column.specs.CheapColumn.{outward, rangeOf, cheapTriangles, planned, wholeAnswer, faceAnswer, built, faced};
+ghost use Rattle.cheap_column.specs.CheapColumn.{outward, wrapsBy, rangeOf, cheapTriangles, planned, wholeAnswer, faceAnswer, built, faced};
 use answer::answer::Answer;
 use answer::answer::Refusal;
 use face::triangle::Counts;
@@ -26,6 +26,12 @@ use face::vec::Vec3;
 pub struct CheapColumn {
     pub centre: Vec2,
     pub height: f32,
+}
+
+// A number for each corner, the reciprocal of its length, and whether they may be used.
+struct Wrapping {
+    ones: [f32; 8],
+    usable: bool,
 }
 
 const INDICES: [u16; 48] = [
@@ -128,61 +134,93 @@ fn put2(buffer: &mut [f32], at: usize, p: Vec2)
     buffer[at + 1] = p.y;
 }
 
-// A corner of the top and the one under it.
-fn put_point(height: f32, corners: &[f32], k: usize, vertices: &mut [f32])
-    requires { ⌜ (length (now corners) ≡ 12) × (k ≤ 5) × (36 ≤ length (now vertices)) ⌝ }
-    ensures { λ _. ⌜ now (vertices .exit) ≡ laid (laid (now (vertices .entry)) (3 * k) (three (upright (cornerFrom (now (corners .entry)) k) height))) (18 + 3 * k) (three (upright (cornerFrom (now (corners .entry)) k) f0)) ⌝ }
+fn corners_of(corners: &[f32]) -> [Vec2; 6]
+    requires { ⌜ length (now corners) ≡ 12 ⌝ }
+    ensures { λ r. ⌜ r ≡ each (cornerFrom (now (corners .entry))) 6 ⌝ }
 {
-    let p = corner_at(corners, k);
-    put3(vertices, 3 * k, raise(p, height));
-    put3(vertices, 18 + 3 * k, raise(p, 0.0));
+    [
+        corner_at(corners, 0),
+        corner_at(corners, 1),
+        corner_at(corners, 2),
+        corner_at(corners, 3),
+        corner_at(corners, 4),
+        corner_at(corners, 5),
+    ]
 }
 
-// From the middle of the top to a corner of it, as long as it is; the foot has the top's normals.
-fn put_normal(job: CheapColumn, corners: &[f32], k: usize, normals: &mut [f32])
-    requires { ⌜ (length (now corners) ≡ 12) × (k ≤ 5) × (36 ≤ length (now normals)) ⌝ }
-    ensures { λ _. ⌜ now (normals .exit) ≡ laid (laid (now (normals .entry)) (3 * k) (three (outward job (cornerFrom (now (corners .entry)) k)))) (18 + 3 * k) (three (outward job (cornerFrom (now (corners .entry)) k))) ⌝ }
+fn ring(cs: [Vec2; 6], height: f32) -> [Vec3; 6]
+    ensures { λ r. ⌜ r ≡ map (λ p. upright p height) cs ⌝ }
 {
-    let p = raise(corner_at(corners, k), job.height);
-    let n = face::vec::sub3(p, raise(job.centre, job.height));
-    put3(normals, 3 * k, n);
-    put3(normals, 18 + 3 * k, n);
+    let mut out = [Vec3 {
+        x: 0.0,
+        y: 0.0,
+        z: 0.0,
+    }; 6];
+    for k in 0usize..6 {
+        out[k] = raise(cs[k], height);
+    }
+    out
 }
 
-fn put_uv(corners: &[f32], k: usize, uvs: &mut [f32])
-    requires { ⌜ (length (now corners) ≡ 12) × (k ≤ 5) × (24 ≤ length (now uvs)) ⌝ }
-    ensures { λ _. ⌜ now (uvs .exit) ≡ laid (laid (now (uvs .entry)) (2 * k) (two (wrapped (cornerFrom (now (corners .entry)) k)))) (12 + 2 * k) (two (wrapped (cornerFrom (now (corners .entry)) k))) ⌝ }
+fn from_middle(top: [Vec3; 6], middle: Vec3) -> [Vec3; 6]
+    ensures { λ r. ⌜ r ≡ map (λ p. minus3 p middle) top ⌝ }
 {
-    let t = face::uv_mapping::wrap_uv(corner_at(corners, k));
-    put2(uvs, 2 * k, t);
-    put2(uvs, 12 + 2 * k, t);
+    let mut out = top;
+    for k in 0usize..6 {
+        out[k] = face::vec::sub3(top[k], middle);
+    }
+    out
 }
 
-fn put_points(height: f32, corners: &[f32], vertices: &mut [f32])
-    requires { ⌜ (length (now corners) ≡ 12) × (36 ≤ length (now vertices)) ⌝ }
-    ensures { λ _. ⌜ now (vertices .exit) ≡ laid (now (vertices .entry)) 0 (spread three (each (λ k. upright (cornerFrom (now (corners .entry)) k) height) 6 ++ each (λ k. upright (cornerFrom (now (corners .entry)) k) f0) 6)) ⌝ }
+fn put_ring(at: usize, ps: [Vec3; 6], buffer: &mut [f32])
+    requires { ⌜ at + 18 ≤ length (now buffer) ⌝ }
+    ensures { λ _. ⌜ now (buffer .exit) ≡ laid (now (buffer .entry)) at (spread three ps) ⌝ }
 {
     for k in 0usize..6 {
-        put_point(height, corners, k, vertices);
+        put3(buffer, at + 3 * k, ps[k]);
     }
 }
 
-fn put_normals(job: CheapColumn, corners: &[f32], normals: &mut [f32])
-    requires { ⌜ (length (now corners) ≡ 12) × (36 ≤ length (now normals)) ⌝ }
-    ensures { λ _. ⌜ now (normals .exit) ≡ laid (now (normals .entry)) 0 (spread three (each (λ k. outward job (cornerFrom (now (corners .entry)) k)) 6 ++ each (λ k. outward job (cornerFrom (now (corners .entry)) k)) 6)) ⌝ }
+fn put_row(at: usize, ts: [Vec2; 6], buffer: &mut [f32])
+    requires { ⌜ at + 12 ≤ length (now buffer) ⌝ }
+    ensures { λ _. ⌜ now (buffer .exit) ≡ laid (now (buffer .entry)) at (spread two ts) ⌝ }
 {
     for k in 0usize..6 {
-        put_normal(job, corners, k, normals);
+        put2(buffer, at + 2 * k, ts[k]);
     }
+}
+
+// The corners are read before anything is laid: a store might change what a lent list holds, for all the compiler knows.
+fn put_rings(job: CheapColumn, corners: &[f32], vertices: &mut [f32], normals: &mut [f32])
+    requires { ⌜ (length (now corners) ≡ 12) × (36 ≤ length (now vertices)) × (36 ≤ length (now normals)) ⌝ }
+    ensures { λ _. ⌜ (now (vertices .exit) ≡ laid (now (vertices .entry)) 0 (spread three (each (λ k. upright (cornerFrom (now (corners .entry)) k) (job .height)) 6 ++ each (λ k. upright (cornerFrom (now (corners .entry)) k) f0) 6))) × (now (normals .exit) ≡ laid (now (normals .entry)) 0 (spread three (each (λ k. outward job (cornerFrom (now (corners .entry)) k)) 6 ++ each (λ k. outward job (cornerFrom (now (corners .entry)) k)) 6))) ⌝ }
+{
+    let cs = corners_of(corners);
+    let top = ring(cs, job.height);
+    put_ring(0, top, vertices);
+    put_ring(18, ring(cs, 0.0), vertices);
+    let ns = from_middle(top, raise(job.centre, job.height));
+    put_ring(0, ns, normals);
+    put_ring(18, ns, normals);
+}
+
+fn wrap_each(cs: [Vec2; 6]) -> [Vec2; 6]
+    ensures { λ r. ⌜ r ≡ map wrapped cs ⌝ }
+{
+    let mut out = cs;
+    for k in 0usize..6 {
+        out[k] = face::uv_mapping::wrap_uv(cs[k]);
+    }
+    out
 }
 
 fn put_each(corners: &[f32], uvs: &mut [f32])
     requires { ⌜ (length (now corners) ≡ 12) × (24 ≤ length (now uvs)) ⌝ }
     ensures { λ _. ⌜ now (uvs .exit) ≡ laid (now (uvs .entry)) 0 (spread two (each (λ k. wrapped (cornerFrom (now (corners .entry)) k)) 6 ++ each (λ k. wrapped (cornerFrom (now (corners .entry)) k)) 6)) ⌝ }
 {
-    for k in 0usize..6 {
-        put_uv(corners, k, uvs);
-    }
+    let ts = wrap_each(corners_of(corners));
+    put_row(0, ts, uvs);
+    put_row(12, ts, uvs);
 }
 
 fn square_at(corners: &[f32], k: usize) -> f32
@@ -206,64 +244,46 @@ fn squares(corners: &[f32]) -> [f32; 8]
     [a, b, c, d, e, f, e, f]
 }
 
-fn lengths(corners: &[f32]) -> [f32; 8]
+fn one_over_each(spans: [f32; 8]) -> [f32; 8]
+    ensures { λ r. ⌜ r ≡ map reciprocal spans ⌝ }
+{
+    let mut out = spans;
+    for k in 0usize..8 {
+        out[k] = face::vec::one_over(spans[k]);
+    }
+    out
+}
+
+// The reciprocal lengths of the corners, and whether they may be used.
+fn ones(corners: &[f32]) -> Wrapping
     requires { ⌜ length (now corners) ≡ 12 ⌝ }
-    ensures { λ r. ⌜ ((k : ℕ) → k ≤ 5 → getD r k nan ≡ length2 (cornerFrom (now (corners .entry)) k)) ⌝ }
+    ensures { λ r. ⌜ (r .usable ≡ true → wrapsBy (now (corners .entry)) (r .ones)) ⌝ }
 {
     let found = arith::eight::roots(squares(corners));
-    found.all
-}
-
-fn is_ordinary_length(span: f32) -> bool
-    ensures { λ r. ⌜ r ≡ ordinary (reciprocal span) ⌝ }
-{
-    face::vec::is_ordinary(face::vec::one_over(span))
-}
-
-fn are_ordinary(spans: [f32; 8]) -> bool
-    ensures { λ r. ⌜ (r ≡ true → (k : ℕ) → k < 6 → ordinary (reciprocal (getD spans k nan)) ≡ true) ⌝ }
-{
-    let mut k = 0usize;
-    while k < 6 {
-        if is_ordinary_length(spans[k]) {
-            k += 1;
-        } else {
-            return false;
-        }
+    let spans = found.all;
+    Wrapping {
+        ones: one_over_each(spans),
+        usable: found.middling,
     }
-    true
 }
 
-// A uv by its corner's length, in both of its places.
-fn put_by(corners: &[f32], k: usize, span: f32, uvs: &mut [f32])
-    requires { ⌜ (length (now corners) ≡ 12) × (k ≤ 5) × (24 ≤ length (now uvs)) × (span ≡ length2 (cornerFrom (now corners) k)) × (ordinary (reciprocal span) ≡ true) ⌝ }
-    ensures { λ _. ⌜ now (uvs .exit) ≡ laid (laid (now (uvs .entry)) (2 * k) (two (wrapped (cornerFrom (now (corners .entry)) k)))) (12 + 2 * k) (two (wrapped (cornerFrom (now (corners .entry)) k))) ⌝ }
+fn wrap_by(cs: [Vec2; 6], ones: [f32; 8]) -> [Vec2; 6]
+    ensures { λ r. ⌜ r ≡ each (λ k. halved (times2 (getD cs k off2) (getD ones k nan))) 6 ⌝ }
 {
-    let p = face::vec::scale2(corner_at(corners, k), face::vec::one_over(span));
-    let t = face::uv_mapping::halve(p);
-    put2(uvs, 2 * k, t);
-    put2(uvs, 12 + 2 * k, t);
-}
-
-fn put_all(corners: &[f32], spans: [f32; 8], uvs: &mut [f32])
-    requires { ⌜ (length (now corners) ≡ 12) × (24 ≤ length (now uvs)) × ((k : ℕ) → k ≤ 5 → getD spans k nan ≡ length2 (cornerFrom (now corners) k)) × ((k : ℕ) → k < 6 → ordinary (reciprocal (getD spans k nan)) ≡ true) ⌝ }
-    ensures { λ _. ⌜ now (uvs .exit) ≡ laid (now (uvs .entry)) 0 (spread two (each (λ k. wrapped (cornerFrom (now (corners .entry)) k)) 6 ++ each (λ k. wrapped (cornerFrom (now (corners .entry)) k)) 6)) ⌝ }
-{
+    let mut out = cs;
     for k in 0usize..6 {
-        put_by(corners, k, spans[k], uvs);
+        out[k] = face::uv_mapping::halve(face::vec::scale2(cs[k], ones[k]));
     }
+    out
 }
 
-// By the six lengths; a corner that has no direction, or hardly one, leaves all to the loop.
-fn put_uvs(corners: &[f32], spans: [f32; 8], uvs: &mut [f32])
-    requires { ⌜ (length (now corners) ≡ 12) × (24 ≤ length (now uvs)) × ((k : ℕ) → k ≤ 5 → getD spans k nan ≡ length2 (cornerFrom (now corners) k)) ⌝ }
+fn put_by(corners: &[f32], ones: [f32; 8], uvs: &mut [f32])
+    requires { ⌜ (length (now corners) ≡ 12) × (24 ≤ length (now uvs)) × (wrapsBy (now corners) ones) ⌝ }
     ensures { λ _. ⌜ now (uvs .exit) ≡ laid (now (uvs .entry)) 0 (spread two (each (λ k. wrapped (cornerFrom (now (corners .entry)) k)) 6 ++ each (λ k. wrapped (cornerFrom (now (corners .entry)) k)) 6)) ⌝ }
 {
-    if are_ordinary(spans) {
-        put_all(corners, spans, uvs);
-        return;
-    }
-    put_each(corners, uvs);
+    let ts = wrap_by(corners_of(corners), ones);
+    put_row(0, ts, uvs);
+    put_row(12, ts, uvs);
 }
 
 fn put_indices(buffer: &mut [u16])
@@ -276,22 +296,18 @@ fn put_indices(buffer: &mut [u16])
     }
 }
 
-// The top and the foot share corners and normals: a turn lays each in both of its places.
-fn put_rings(job: CheapColumn, corners: &[f32], vertices: &mut [f32], normals: &mut [f32])
-    requires { ⌜ (length (now corners) ≡ 12) × (36 ≤ length (now vertices)) × (36 ≤ length (now normals)) ⌝ }
-    ensures { λ _. ⌜ (now (vertices .exit) ≡ laid (now (vertices .entry)) 0 (spread three (each (λ k. upright (cornerFrom (now (corners .entry)) k) (job .height)) 6 ++ each (λ k. upright (cornerFrom (now (corners .entry)) k) f0) 6))) × (now (normals .exit) ≡ laid (now (normals .entry)) 0 (spread three (each (λ k. outward job (cornerFrom (now (corners .entry)) k)) 6 ++ each (λ k. outward job (cornerFrom (now (corners .entry)) k)) 6))) ⌝ }
-{
-    put_points(job.height, corners, vertices);
-    put_normals(job, corners, normals);
-}
-
-// The uvs and the indices: apart from the points, since the compiler makes shorter code of each by itself.
-fn put_rest(outline: &[f32], spans: [f32; 8], uvs: &mut [f32], indices: &mut [u16])
-    requires { ⌜ (length (now outline) ≡ 12) × (24 ≤ length (now uvs)) × (48 ≤ length (now indices)) × ((k : ℕ) → k ≤ 5 → getD spans k nan ≡ length2 (cornerFrom (now outline) k)) ⌝ }
+// The uvs by the reciprocal lengths; a corner that has no direction, or hardly one, leaves all to the loop.
+fn put_rest(outline: &[f32], by: Wrapping, uvs: &mut [f32], indices: &mut [u16])
+    requires { ⌜ (length (now outline) ≡ 12) × (24 ≤ length (now uvs)) × (48 ≤ length (now indices)) × (by .usable ≡ true → wrapsBy (now outline) (by .ones)) ⌝ }
     ensures { λ _. ⌜ (now (uvs .exit) ≡ laid (now (uvs .entry)) 0 (spread two (each (λ k. wrapped (cornerFrom (now (outline .entry)) k)) 6 ++ each (λ k. wrapped (cornerFrom (now (outline .entry)) k)) 6))) × (now (indices .exit) ≡ laid (now (indices .entry)) 0 (spread (corners 0) cheapTriangles)) ⌝ }
 {
-    put_uvs(outline, spans, uvs);
     put_indices(indices);
+    if by.usable {
+        let ones = by.ones;
+        put_by(outline, ones, uvs);
+        return;
+    }
+    put_each(outline, uvs);
 }
 
 // The counts of the job, or why it is refused.
@@ -356,9 +372,9 @@ pub fn build(
     match answer {
         Answer::Refused(why) => Answer::Refused(why),
         Answer::Done(counts) => {
-            let spans = lengths(corners);
             put_rings(job, corners, vertices, normals);
-            put_rest(corners, spans, uvs, indices);
+            let by = ones(corners);
+            put_rest(corners, by, uvs, indices);
             Answer::Done(counts)
         }
     }
@@ -387,9 +403,9 @@ pub fn face(
     match answer {
         Answer::Refused(why) => Answer::Refused(why),
         Answer::Done(counts) => {
-            let spans = lengths(corners);
             put_rings(job, corners, vertices, normals);
-            put_rest(corners, spans, uvs, indices);
+            let by = ones(corners);
+            put_rest(corners, by, uvs, indices);
             Answer::Done(counts)
         }
     }

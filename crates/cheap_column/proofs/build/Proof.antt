@@ -18,26 +18,26 @@ build-spec =
     (λ c. search needs)
     (λ c. search needs)
     (λ c κs.
-    let a = c .before .before .before .before .before .before .before .before .before .args in
+    let a = c .before .before .before .before .before .before .before .before .before .before .before .args in
     let l = now (a .corners) in
     let B = four (now (a .vertices)) (now (a .normals)) (now (a .uvs)) (now (a .indices)) in
-    let e = sym (c .before .before .before .whole .ensures) ∙ c .before .answer2 .given .1 in
-    let r = whole-ready (a .job) l B _ e in
-    r .twelve)
-    (λ c κs.
-    let a = c .before .before .before .before .before .before .before .before .before .before .before .before .args in
-    let l = now (a .corners) in
-    let B = four (now (a .vertices)) (now (a .normals)) (now (a .uvs)) (now (a .indices)) in
-    let e = sym (c .before .before .before .before .before .before .whole .ensures) ∙ c .before .before .before .before .answer2 .given .1 in
+    let e = sym (c .before .before .before .before .before .whole .ensures) ∙ c .before .before .before .answer2 .given .1 in
     let r = whole-ready (a .job) l B _ e in
     (r .twelve, r .vertices, r .normals))
+    (λ c κs.
+    let a = c .before .before .before .before .before .before .before .before .before .before .before .before .before .before .before .before .args in
+    let l = now (a .corners) in
+    let B = four (now (a .vertices)) (now (a .normals)) (now (a .uvs)) (now (a .indices)) in
+    let e = sym (c .before .before .before .before .before .before .before .before .before .before .whole .ensures) ∙ c .before .before .before .before .before .before .before .before .answer2 .given .1 in
+    let r = whole-ready (a .job) l B _ e in
+    r .twelve)
     (λ c κs.
     let a = c .before .before .before .before .before .before .before .before .before .before .before .before .before .before .before .before .before .before .before .args in
     let l = now (a .corners) in
     let B = four (now (a .vertices)) (now (a .normals)) (now (a .uvs)) (now (a .indices)) in
     let e = sym (c .before .before .before .before .before .before .before .before .before .before .before .before .before .whole .ensures) ∙ c .before .before .before .before .before .before .before .before .before .before .before .answer2 .given .1 in
     let r = whole-ready (a .job) l B _ e in
-    (r .twelve, r .uvs, r .indices, c .before .before .before .before .before .before .before .before .before .lengths .ensures))
+    (r .twelve, r .uvs, r .indices, c .before .before .ones .ensures))
     (λ c.
     let a = c .before .before .before .before .before .before .before .before .before .args in
     let l = now (a .corners) in
@@ -53,6 +53,6 @@ build-spec =
     let l = now (a .corners) in
     let B = four (now (a .vertices)) (now (a .normals)) (now (a .uvs)) (now (a .indices)) in
     let e = sym (c .before .before .before .before .before .before .before .before .before .before .before .before .before .before .before .before .before .before .whole .ensures) ∙ c .before .before .before .before .before .before .before .before .before .before .before .before .before .before .before .before .answer2 .given .1 in
-    let p = c .before .before .before .before .before .before .before .before .before .before .before .put-rings .ensures in
+    let p = c .before .before .before .before .before .before .before .before .before .before .before .before .put-rings .ensures in
     let q = c .before .before .before .before .put-rest .ensures in
     (sym e, column-laid (a .job) l B (p .0) (p .1) (q .0) (q .1) ∙ after-done (wholeAnswer (a .job) l B) B (layAll (cheapFaces (a .job) l) none B) e)))

@@ -20,26 +20,26 @@ face-spec =
     (λ c. search needs)
     (λ c. search needs)
     (λ c κs.
-    let a = c .before .before .before .before .before .before .before .before .before .before .before .args in
+    let a = c .before .before .before .before .before .before .before .before .before .before .before .before .before .args in
     let l = now (a .corners) in
     let B = four (now (a .vertices)) (now (a .normals)) (now (a .uvs)) (now (a .indices)) in
-    let e = sym (rw (c .before .before .before .before .name .ensures, c .before .before .before .before .before .plan .ensures) at (c .before .before .before .room .ensures)) ∙ c .before .answer2 .given .1 in
-    let r = face-ready (a .job) l B (a .number) _ e in
-    r .twelve)
-    (λ c κs.
-    let a = c .before .before .before .before .before .before .before .before .before .before .before .before .before .before .args in
-    let l = now (a .corners) in
-    let B = four (now (a .vertices)) (now (a .normals)) (now (a .uvs)) (now (a .indices)) in
-    let e = sym (rw (c .before .before .before .before .before .before .before .name .ensures, c .before .before .before .before .before .before .before .before .plan .ensures) at (c .before .before .before .before .before .before .room .ensures)) ∙ c .before .before .before .before .answer2 .given .1 in
+    let e = sym (rw (c .before .before .before .before .before .before .name .ensures, c .before .before .before .before .before .before .before .plan .ensures) at (c .before .before .before .before .before .room .ensures)) ∙ c .before .before .before .answer2 .given .1 in
     let r = face-ready (a .job) l B (a .number) _ e in
     (r .twelve, r .vertices, r .normals))
+    (λ c κs.
+    let a = c .before .before .before .before .before .before .before .before .before .before .before .before .before .before .before .before .before .before .args in
+    let l = now (a .corners) in
+    let B = four (now (a .vertices)) (now (a .normals)) (now (a .uvs)) (now (a .indices)) in
+    let e = sym (rw (c .before .before .before .before .before .before .before .before .before .before .before .name .ensures, c .before .before .before .before .before .before .before .before .before .before .before .before .plan .ensures) at (c .before .before .before .before .before .before .before .before .before .before .room .ensures)) ∙ c .before .before .before .before .before .before .before .before .answer2 .given .1 in
+    let r = face-ready (a .job) l B (a .number) _ e in
+    r .twelve)
     (λ c κs.
     let a = c .before .before .before .before .before .before .before .before .before .before .before .before .before .before .before .before .before .before .before .before .before .args in
     let l = now (a .corners) in
     let B = four (now (a .vertices)) (now (a .normals)) (now (a .uvs)) (now (a .indices)) in
     let e = sym (rw (c .before .before .before .before .before .before .before .before .before .before .before .before .before .before .name .ensures, c .before .before .before .before .before .before .before .before .before .before .before .before .before .before .before .plan .ensures) at (c .before .before .before .before .before .before .before .before .before .before .before .before .before .room .ensures)) ∙ c .before .before .before .before .before .before .before .before .before .before .before .answer2 .given .1 in
     let r = face-ready (a .job) l B (a .number) _ e in
-    (r .twelve, r .uvs, r .indices, c .before .before .before .before .before .before .before .before .before .lengths .ensures))
+    (r .twelve, r .uvs, r .indices, c .before .before .ones .ensures))
     (λ c.
     let a = c .before .before .before .before .before .before .before .before .before .before .before .args in
     let l = now (a .corners) in
@@ -55,6 +55,6 @@ face-spec =
     let l = now (a .corners) in
     let B = four (now (a .vertices)) (now (a .normals)) (now (a .uvs)) (now (a .indices)) in
     let e = sym (rw (c .before .before .before .before .before .before .before .before .before .before .before .before .before .before .before .before .before .before .before .name .ensures, c .before .before .before .before .before .before .before .before .before .before .before .before .before .before .before .before .before .before .before .before .plan .ensures) at (c .before .before .before .before .before .before .before .before .before .before .before .before .before .before .before .before .before .before .room .ensures)) ∙ c .before .before .before .before .before .before .before .before .before .before .before .before .before .before .before .before .answer2 .given .1 in
-    let p = c .before .before .before .before .before .before .before .before .before .before .before .put-rings .ensures in
+    let p = c .before .before .before .before .before .before .before .before .before .before .before .before .put-rings .ensures in
     let q = c .before .before .before .before .put-rest .ensures in
     (sym e, column-laid (a .job) l B (p .0) (p .1) (q .0) (q .1) ∙ face-laid (a .job) l B (a .number) _ e ∙ after-done (faceAnswer (a .job) l (a .number) B) B (layOne (cheapFaces (a .job) l) (a .number) none B) e)))

@@ -1,11 +1,12 @@
--- `put_by`: an ordinary reciprocal length wraps its corner. Assumes nothing.
+-- `put_by`: the six uvs by the numbers at hand, in two rows. Assumes nothing.
 use borrow.Author.Needs.{needs}
-use mathlib.Core.Path.{_≡_, ap, _∙_}
-use Rattle.face.specs.Vec.{reciprocal}
-use Rattle.face.specs.Texture.{wrapped}
-use Rattle.face.proofs.Wraps.{wrapped-by}
-use Rattle.mesh.specs.Stored.{cornerFrom}
+use mathlib.Core.Path.{refl}
 use denote.Ref.{now}
+use Rattle.face.specs.Lists.{each}
+use Rattle.face.specs.Texture.{wrapped}
+use Rattle.buffers.specs.Laying.{two}
+use Rattle.mesh.specs.Stored.{cornerFrom}
+use Rattle.cheap_column.proofs.Cheap.{two-rows, by-wrapped}
 use Rattle.cheap_column.proofs.put_by.Statement.{statement}
 use Rattle.cheap_column.proofs.put_by.Tie as tie
 
@@ -18,14 +19,9 @@ put-by-spec =
     (λ c κs. search needs)
     (λ c κs. search needs)
     (λ c. search needs)
-    (λ c κs. search needs)
-    (λ c. search needs)
-    (λ c. search needs)
-    (λ c κs. search needs)
-    (λ c. search needs)
     (λ c.
-    let s = c .before .before .before .before .before .before .before .before .before .before .before .before .before .before in
-    let p = cornerFrom (now (s .args .corners)) (s .args .k) in
-    let k = reciprocal (s .args .span) in
-    let e : c .before .before .before .before .before .before .before .before .halve .result ≡ wrapped p = c .before .before .before .before .before .before .before .before .halve .ensures ∙ rw (c .before .before .before .before .before .before .before .before .before .scale2 .ensures, c .before .before .before .before .before .before .before .before .before .before .one-over .ensures, c .before .before .before .before .before .before .before .before .before .before .before .corner-at .ensures) (wrapped-by p k (ap reciprocal (s .pre .3)) (s .pre .4)) in
-    rw (c .before .before .put22 .ensures, c .before .before .before .before .before .before .put2 .ensures, e)))
+    let a = c .before .before .before .before .before .before .before .before .before .before .before .before .args in
+    let l = now (a .corners) in
+    let T = each (λ k. wrapped (cornerFrom l k)) 6 in
+    let e = by-wrapped l (a .ones) (c .before .before .before .before .before .before .before .before .before .corners-of .ensures) (c .before .before .before .before .before .before .before .before .wrap-by .ensures) (c .before .before .before .before .before .before .before .before .before .before .before .before .pre .2) in
+    two-rows two (now (a .uvs)) 12 T T refl (c .before .before .before .before .before .before .put-row .ensures) e (c .before .before .put-row2 .ensures) e))

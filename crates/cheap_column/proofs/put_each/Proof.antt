@@ -1,32 +1,28 @@
--- `put_each`: a turn lays one uv in both of its places. Assumes nothing.
+-- `put_each`: the six uvs one by one, in two rows. Assumes nothing.
 use borrow.Author.Needs.{needs}
-use Prim.Native.Nat.{_-_}
-use native.Mathlib.Omega.{arith}
-use mathlib.Core.Path.{refl, sym, _∙_}
+use mathlib.Core.Path.{refl, ap, _∙_}
+use mathlib.Core.List.{map}
+use denote.Ref.{now}
+use Rattle.face.specs.Lists.{each}
 use Rattle.face.specs.Texture.{wrapped}
 use Rattle.buffers.specs.Laying.{two}
-use Rattle.buffers.proofs.Laid.{laid-nothing}
 use Rattle.mesh.specs.Stored.{cornerFrom}
-use Rattle.cheap_column.proofs.Cheap.{Rings, rings-more, rings-done}
+use Rattle.cheap_column.proofs.Cheap.{two-rows}
 use Rattle.cheap_column.proofs.put_each.Statement.{statement}
 use Rattle.cheap_column.proofs.put_each.Tie as tie
-
-abbrev Inv : tie.InvT-loop
-Inv corners uvs₀ k₀ uvs k = Rings two 2 (λ j. wrapped (cornerFrom corners j)) (λ j. wrapped (cornerFrom corners j)) uvs₀ k uvs
-
-abbrev μ : tie.MeasureT-loop
-μ corners uvs₀ k₀ uvs k = 6 - k
 
 pub put-each-spec : {M : Type 1} → statement M
 put-each-spec =
     tie.close
     (tie.spec
-    Inv
-    μ
-    (λ c. (omega arith, refl, sym (laid-nothing _ _ ∙ laid-nothing _ _)))
+    (λ c κs. search needs)
+    (λ c κs. search needs)
+    (λ c κs. search needs)
     (λ c κs. search needs)
     (λ c. search needs)
-    (λ c. search needs)
-    (λ c. rings-more two 2 _ _ _ (λ x. refl) _ _ _ (c .before .before .before .before .before .loop .inv) (c .before .before .before .before .loop-test .taken) (c .before .before .put-uv .ensures))
-    (λ c. search needs)
-    (λ c. rings-done two 2 _ _ _ (λ x. refl) _ _ (c .before .loop .inv) (c .loop-test .left)))
+    (λ c.
+    let a = c .before .before .before .before .before .before .before .before .before .before .before .before .args in
+    let l = now (a .corners) in
+    let T = each (λ k. wrapped (cornerFrom l k)) 6 in
+    let e = c .before .before .before .before .before .before .before .before .wrap-each .ensures ∙ ap (map wrapped) (c .before .before .before .before .before .before .before .before .before .corners-of .ensures) in
+    two-rows two (now (a .uvs)) 12 T T refl (c .before .before .before .before .before .before .put-row .ensures) e (c .before .before .put-row2 .ensures) e))

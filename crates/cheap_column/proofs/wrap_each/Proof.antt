@@ -1,0 +1,36 @@
+-- `wrap_each`: a turn wraps one corner. Assumes nothing.
+use borrow.Author.Needs.{needs}
+use Prim.Native.Nat.{_-_}
+use mathlib.Core.Path.{_≡_, refl}
+use lib.ListN.{length, getD}
+use Rattle.face.specs.Vec.{off2}
+use Rattle.face.specs.Texture.{wrapped}
+use Rattle.face.proofs.Filling.{Filled, filled-more, filled-map}
+use Rattle.cheap_column.proofs.wrap_each.Statement.{statement}
+use Rattle.cheap_column.proofs.wrap_each.Tie as tie
+
+abbrev Inv : tie.InvT-loop
+Inv cs out₀ k₀ out k = Filled (λ v. wrapped (getD cs v off2)) 6 out₀ k out
+
+abbrev μ : tie.MeasureT-loop
+μ cs out₀ k₀ out k = 6 - k
+
+pub wrap-each-spec : {M : Type 1} → statement M
+wrap-each-spec =
+    tie.close
+    (tie.spec
+    Inv
+    μ
+    (λ c. (search needs, refl))
+    (λ c. search needs)
+    (λ c. search needs)
+    (λ c κs. search needs)
+    (λ c. search needs)
+    (λ c. search needs)
+    (λ c. search needs)
+    (λ c. search needs)
+    (λ c. filled-more _ 6 _ _ _ _ (c .before .before .before .loop .inv) (c .before .before .loop-test .taken) (search needs) (c .wrap-uv .ensures))
+    (λ c.
+    let a = c .before .before .args in
+    let l : length (a .t1) ≡ 6 = search needs in
+    filled-map wrapped (a .t1) off2 6 _ _ _ (c .before .loop .inv) (c .loop-test .left) (search needs) l))
