@@ -296,7 +296,8 @@ fn put_indices(buffer: &mut [u16])
     }
 }
 
-// The uvs by the reciprocal lengths; a corner that has no direction, or hardly one, leaves all to the loop.
+// The uvs by the reciprocal lengths; a corner that has no direction, or hardly one, leaves all to the slow way.
+// Apart from the points and the lengths, since the compiler makes shorter code of each by itself.
 fn put_rest(outline: &[f32], by: Wrapping, uvs: &mut [f32], indices: &mut [u16])
     requires { ⌜ (length (now outline) ≡ 12) × (24 ≤ length (now uvs)) × (48 ≤ length (now indices)) × (by .usable ≡ true → wrapsBy (now outline) (by .ones)) ⌝ }
     ensures { λ _. ⌜ (now (uvs .exit) ≡ laid (now (uvs .entry)) 0 (spread two (each (λ k. wrapped (cornerFrom (now (outline .entry)) k)) 6 ++ each (λ k. wrapped (cornerFrom (now (outline .entry)) k)) 6))) × (now (indices .exit) ≡ laid (now (indices .entry)) 0 (spread (corners 0) cheapTriangles)) ⌝ }
