@@ -1,24 +1,29 @@
--- A product that a rounding leaves as it is, and sums that are no NaN: what six fused multiply-adds at once stand on. Assumes nothing.
+-- A product that a rounding leaves as it is, and sums that are no NaN: what twelve fused multiply-adds at once stand on. Assumes nothing.
 use mathlib.Core.Path.{_≡_, refl, sym, ap, ap₂, _∙_, subst}
 use mathlib.Core.Logic.{_⊎_, inl, inr, ⊎-elim}
 use mathlib.Core.Bool.{Bool, true, false, not, _||_, Bool·beq, cond, false≢true}
-use Prim.Native.Nat.{ℕ, zero, suc, _*_, _%_, _^_, _<_}
-use native.Mathlib.Nat.{mul-assoc, mul-comm, mul-left-comm, mul-pos, mul-mul-mul-comm, eq-of-mul-eq-mul-right}
+use Prim.Native.Nat.{ℕ, zero, suc, _+_, _-_, _*_, _/_, _%_, _^_, _≤_, _<_}
+use native.Mathlib.Nat.{zero-add, mul-assoc, mul-comm, mul-left-comm, mul-pos, mul-mul-mul-comm, eq-of-mul-eq-mul-right}
 use native.Mathlib.Omega.{arith}
 use lib.Dec.{T, eqb, ltb, eqb→eq}
 use lib.Pow.{pow-pos}
+use lib.Arith.{le→nltb}
+use borrow.Author.Tests.{lt-leb}
 use lib.IntN.{ℤ}
-use lib.Ieee.{Float, nan, inf, fin, Format, prec, low, binary32, binary64, unlike, up, down, odd, units, round, add, sub, neg, mul, eq, toBits, ofBits, fits, isNan}
+use lib.Ieee.{Float, nan, inf, fin, Format, prec, low, binary32, binary64, unlike, up, down, odd, units, round, add, sub, neg, mul, eq, ne, toBits, ofBits, nanBits, fits, isNan}
+use lib.Ieee.Bits.{nanBits-above}
+use lib.Ieee.Nearest.{closest}
 use lib.Ieee.Fits.{down-pos}
 use lib.Ieee.Exact.{HasValue}
 use lib.Ieee.Scale.{round-same, finite, overflow}
 use Rattle.arith.specs.Pattern.{sigOf, expOf, worth}
 use Rattle.arith.specs.Fused.{fma}
 use Rattle.arith.specs.Parts.{Narrows, narrow}
-use Rattle.arith.specs.Six.{Whole, Tells, Either}
+use Rattle.arith.specs.Twelve.{sumBits, Middling}
 use Rattle.arith.proofs.Values.{sign, held, sig-lt}
 use Rattle.arith.proofs.Laws.{split, none}
-use Rattle.arith.proofs.ByDouble.{add-at, product-value, exp-le, one-number}
+use Rattle.arith.proofs.ByDouble.{add-at, mul-finite, product-value, exp-le, one-number, by-double}
+use Rattle.arith.proofs.Twice.{cut-off}
 
 -- ---- a value by another fraction
 recast : (y : Float) (s t : Bool) (v d w k : ℕ) → 0 < d → s ≡ t → v * k ≡ w * d → HasValue y s v d → HasValue y t w k
@@ -149,8 +154,44 @@ finite-itself (inf true) z h = absurd (false≢true h)
 finite-itself (inf false) z h = absurd (false≢true h)
 finite-itself (fin s m e) z h = tt
 
--- ---- the sum of an exact product, or what its pattern narrows to
-pub chosen : (a b c p q r : Float) (m s t : ℕ) → (m ≡ 0 → Whole a b p) → q ≡ add binary32 p c → Tells a b c s → (m ≡ 0) ⊎ (t ≡ s) → Narrows t → Either m q t r → r ≡ fma a b c
-chosen a b c p q r m s t w e tells k n (inl x) = x .1 ∙ e ∙ sym (w (x .0) c)
-chosen a b c p q r m s t w e tells k n (inr x) =
-    x .1 ∙ ⊎-elim (λ z. absurd (x .0 z)) (λ l. ap (λ (y : ℕ). ofBits binary32 (narrow y)) l ∙ tells (subst Narrows l n)) k
+-- ---- what a test of equality left or took
+pub unequal : (x y : Float) → ne x y ≡ not (eq x y)
+unfolding ne
+unequal x y = refl
+
+pub kept : (x r : Bool) → r ≡ not x → r ≡ false → x ≡ true
+kept true r p q = refl
+kept false r p q = absurd (false≢true (sym q ∙ p))
+
+pub lost : (x r : Bool) → r ≡ not x → r ≡ true → x ≡ true → ⊥
+lost x r p q e = false≢true (ap not (sym e) ∙ sym p ∙ q)
+
+-- ---- a pattern of middling size, and its upper digits from 2 ^ -95 on
+middling-narrows : (bits : ℕ) → Middling bits → Narrows bits
+middling-narrows bits m = record { least = omega (arith, m .0, m .1); most = omega (arith, m .0, m .1); untied = m .2 }
+
+pub upper : (bits w : ℕ) → w < 2 ^ 64 → (w + (928 * 2 ^ 52 - 2 ^ 28)) % 2 ^ 64 ≡ bits → Middling bits → w / 2 ^ 29 % 2 ^ 30 + 2 ^ 28 ≡ narrow bits
+upper bits w l e m =
+    let lo : 928 * 2 ^ 52 - 2 ^ 28 ≤ bits = m .0 in
+    let hi : bits < 1056 * 2 ^ 52 - 2 ^ 28 = m .1 in
+    let x : w ≡ bits - (928 * 2 ^ 52 - 2 ^ 28) = omega arith in
+    let y : w / 2 ^ 29 % 2 ^ 30 + 2 ^ 28 ≡ (bits % 2 ^ 63 + 2 ^ 28) / 2 ^ 29 - 896 * 2 ^ 23 = omega arith in
+    y
+    ∙ ap (λ (v : ℕ). v - 896 * 2 ^ 23) (cut-off bits (middling-narrows bits m))
+    ∙ sym (zero-add (closest (bits % 2 ^ 63) (2 ^ 29) - 896 * 2 ^ 23))
+    ∙ ap (λ (b : Bool). cond b (2 ^ 31) 0 + (closest (bits % 2 ^ 63) (2 ^ 29) - 896 * 2 ^ 23)) (sym (lt-leb (2 ^ 63) bits (let g : bits < 2 ^ 63 = omega arith in g)))
+
+pub upper-no-nan : (w : ℕ) → T (not (nanBits binary32 (w / 2 ^ 29 % 2 ^ 30 + 2 ^ 28)))
+upper-no-nan w = subst (λ (b : Bool). T (not b)) (sym (nanBits-above binary32 _)) (le→nltb (255 * 2 ^ 23) ((w / 2 ^ 29 % 2 ^ 30 + 2 ^ 28) % 2 ^ 31) (omega arith))
+
+-- ---- a * b + c told by the sum in `f64`, or by the product p
+module _ (a b c p : Float) (fa : T (fits binary32 a)) (fb : T (fits binary32 b)) (fc : T (fits binary32 c)) (i : p ≡ mul binary32 a b) (hp : T (finite p)) where
+  factors : T (finite a) × T (finite b)
+  factors = mul-finite binary32 a b (subst (λ (x : Float). T (finite x)) i hp)
+
+  pub told-sum : T (finite c) → Middling (sumBits a b c) → ofBits binary32 (narrow (sumBits a b c)) ≡ fma a b c
+  told-sum hc m = by-double a b c fa fb fc (no-nan-sum a b c fa fb fc (factors .0) (factors .1) hc) (middling-narrows (sumBits a b c) m)
+
+  pub told-product : eq p (mul binary64 a b) ≡ true → add binary32 p c ≡ fma a b c
+  told-product e =
+      ap (λ (x : Float). add binary32 x c) i ∙ sym (whole a b fa fb (factors .0) (factors .1) (subst (λ (x : Float). eq x (mul binary64 a b) ≡ true) i e) c)

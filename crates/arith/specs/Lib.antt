@@ -3,4 +3,4 @@ pub mod Pattern
 pub mod Root
 pub mod Fused
 pub mod Parts
-pub mod Six
+pub mod Twelve

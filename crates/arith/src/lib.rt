@@ -6,8 +6,8 @@ mod double;
 pub mod eight;
 mod multiply_add;
 mod pattern;
-pub mod six;
 mod square_root;
+pub mod twelve;
 
 ghost use mathlib.Core.Path.{_≡_};
 ghost use Rattle.arith.specs.Root.{root};
