@@ -3,4 +3,5 @@ pub mod Laws
 pub mod Bench
 pub mod Filling
 mod Ring
+mod Turns
 pub mod Wraps

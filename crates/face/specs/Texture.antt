@@ -1,5 +1,6 @@
 -- Texture options (uv_mapping.rs); T1 to T4 are rows of docs/TRACE.md. Definitions only.
 use mathlib.Core.Bool.{Bool, false}
+use mathlib.Core.List.{List, [], _∷_}
 use lib.Ieee.{Float}
 use Rattle.arith.specs.Fused.{fma}
 use Rattle.face.specs.declared.vec.Vec2.{Vec2}
@@ -19,6 +20,16 @@ abbrev pub altered : UvOptions → Vec2 → Vec2
 altered o t =
     v2 (component (o .flip .u) (o .scale .x) (o .offset .x) (o .min .x) (o .max .x) (t .x))
     (component (o .flip .v) (o .scale .y) (o .offset .y) (o .min .y) (o .max .y) (t .y))
+
+-- the components of points one after the other, and the points of such a list
+abbrev pub spread : List Vec2 → List Float
+spread [] = []
+spread (t ∷ ts) = t .x ∷ t .y ∷ spread ts
+
+abbrev pub paired : List Float → List Vec2
+paired [] = []
+paired (x ∷ []) = []
+paired (x ∷ y ∷ l) = v2 x y ∷ paired l
 
 -- the direction of p by its reciprocal length k, or p itself where k does not serve
 abbrev pub unitOr : Vec2 → Float → Vec2

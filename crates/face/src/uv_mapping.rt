@@ -2,11 +2,12 @@
 ghost use mathlib.Core.Path.{_≡_};
 ghost use mathlib.Core.List.{map};
 ghost use Rattle.arith.specs.Fused.{fma};
+ghost use Rattle.arith.specs.Twelve.{turn, byTurns};
 ghost use lib.ListN.{getD};
 ghost use lib.Ieee.{nan};
 ghost use Rattle.face.specs.Lists.{pick, each};
-ghost use Rattle.face.specs.Vec.{v2, f1, plus, minus, times, length2, reciprocal, same};
-ghost use Rattle.face.specs.Texture.{plain, component, altered, unitOr, halved, wrapped, oneOfBoth, oneOfThree};
+ghost use Rattle.face.specs.Vec.{f1, plus, minus, times, length2, reciprocal, same};
+ghost use Rattle.face.specs.Texture.{plain, component, altered, spread, paired, unitOr, halved, wrapped, oneOfBoth, oneOfThree};
 use crate::vec::Vec2;
 
 pub struct Flip {
@@ -88,99 +89,107 @@ pub fn alter_four(o: UvOptions, uvs: [Vec2; 4]) -> [Vec2; 4]
     out
 }
 
-// The first components of six, and the second: what is done to either is done to all six at once.
-fn firsts(uvs: [Vec2; 6]) -> [f32; 6]
-    ensures { λ r. ⌜ r ≡ map (λ (t : Vec2). t .x) uvs ⌝ }
+// The components of six one after the other, so that what is done to one is done to all at once.
+fn flat_of(u: [Vec2; 6]) -> [f32; 12]
+    ensures { λ r. ⌜ r ≡ spread u ⌝ }
 {
-    let mut out = [0.0f32; 6];
-    for i in 0usize..6 {
-        out[i] = uvs[i].x;
-    }
-    out
+    [
+        u[0].x,
+        u[0].y,
+        u[1].x,
+        u[1].y,
+        u[2].x,
+        u[2].y,
+        u[3].x,
+        u[3].y,
+        u[4].x,
+        u[4].y,
+        u[5].x,
+        u[5].y,
+    ]
 }
 
-fn seconds(uvs: [Vec2; 6]) -> [f32; 6]
-    ensures { λ r. ⌜ r ≡ map (λ (t : Vec2). t .y) uvs ⌝ }
-{
-    let mut out = [0.0f32; 6];
-    for i in 0usize..6 {
-        out[i] = uvs[i].y;
-    }
-    out
-}
-
-fn joined(us: [f32; 6], vs: [f32; 6]) -> [Vec2; 6]
-    ensures { λ r. ⌜ r ≡ each (λ k. v2 (getD us k nan) (getD vs k nan)) 6 ⌝ }
+fn pairs_of(u: [f32; 12]) -> [Vec2; 6]
+    ensures { λ r. ⌜ r ≡ paired u ⌝ }
 {
     let mut out = [Vec2 { x: 0.0, y: 0.0 }; 6];
     for i in 0usize..6 {
-        out[i] = Vec2 { x: us[i], y: vs[i] };
+        out[i] = Vec2 {
+            x: u[2 * i],
+            y: u[2 * i + 1],
+        };
     }
     out
 }
 
-fn mirrored(us: [f32; 6]) -> [f32; 6]
+fn by_turns(x: f32, y: f32) -> [f32; 12]
+    ensures { λ r. ⌜ r ≡ each (turn x y) 12 ⌝ }
+{
+    [x, y, x, y, x, y, x, y, x, y, x, y]
+}
+
+fn mirrored(us: [f32; 12]) -> [f32; 12]
     ensures { λ r. ⌜ r ≡ map (minus f1) us ⌝ }
 {
     let mut out = us;
-    for i in 0usize..6 {
+    for i in 0usize..12 {
         out[i] = 1.0 - us[i];
     }
     out
 }
 
-fn flipped(flip: bool, us: [f32; 6]) -> [f32; 6]
-    ensures { λ r. ⌜ r ≡ pick flip (map (minus f1) us) us ⌝ }
+fn mixed(us: [f32; 12], vs: [f32; 12]) -> [f32; 12]
+    ensures { λ r. ⌜ r ≡ each (λ k. turn (getD us k nan) (getD vs k nan) k) 12 ⌝ }
 {
-    if flip {
-        return mirrored(us);
+    [
+        us[0],
+        vs[1],
+        us[2],
+        vs[3],
+        us[4],
+        vs[5],
+        us[6],
+        vs[7],
+        us[8],
+        vs[9],
+        us[10],
+        vs[11],
+    ]
+}
+
+fn turned(flip: Flip, us: [f32; 12]) -> [f32; 12]
+    ensures { λ r. ⌜ r ≡ byTurns (λ x. pick (flip .u) (minus f1 x) x) (λ x. pick (flip .v) (minus f1 x) x) us ⌝ }
+{
+    if flip.u {
+        if flip.v {
+            return mirrored(us);
+        }
+        return mixed(mirrored(us), us);
+    }
+    if flip.v {
+        return mixed(us, mirrored(us));
     }
     us
 }
 
-fn moved(scale: f32, offset: f32, us: [f32; 6]) -> [f32; 6]
-    ensures { λ r. ⌜ r ≡ map (λ u. plus (times u scale) offset) us ⌝ }
+fn moved(scale: Vec2, offset: Vec2, us: [f32; 12]) -> [f32; 12]
+    ensures { λ r. ⌜ r ≡ byTurns (λ x. plus (times x (scale .x)) (offset .x)) (λ x. plus (times x (scale .y)) (offset .y)) us ⌝ }
 {
+    let s = by_turns(scale.x, scale.y);
+    let t = by_turns(offset.x, offset.y);
     let mut out = us;
-    for i in 0usize..6 {
-        out[i] = us[i] * scale + offset;
+    for i in 0usize..12 {
+        out[i] = us[i] * s[i] + t[i];
     }
     out
-}
-
-fn alter_components(
-    flip: bool,
-    scale: f32,
-    offset: f32,
-    min: f32,
-    max: f32,
-    us: [f32; 6],
-) -> [f32; 6]
-    ensures { λ r. ⌜ r ≡ map (component flip scale offset min max) us ⌝ }
-{
-    arith::six::fused_six(max - min, moved(scale, offset, flipped(flip, us)), min)
 }
 
 pub fn alter_six(o: UvOptions, uvs: [Vec2; 6]) -> [Vec2; 6]
     ensures { λ r. ⌜ r ≡ map (altered o) uvs ⌝ }
 {
-    let us = alter_components(
-        o.flip.u,
-        o.scale.x,
-        o.offset.x,
-        o.min.x,
-        o.max.x,
-        firsts(uvs),
-    );
-    let vs = alter_components(
-        o.flip.v,
-        o.scale.y,
-        o.offset.y,
-        o.min.y,
-        o.max.y,
-        seconds(uvs),
-    );
-    joined(us, vs)
+    let us = moved(o.scale, o.offset, turned(o.flip, flat_of(uvs)));
+    let w = crate::vec::sub2(o.max, o.min);
+    pairs_of(arith::twelve::fused_by_turns(w.x, w.y, us, o.min.x, o.min.y))
 }
 
 pub fn alter_eight(o: UvOptions, uvs: [Vec2; 8]) -> [Vec2; 8]

@@ -10,10 +10,10 @@ use Rattle.face.proofs.uv_mapping.mirrored.Statement.{statement}
 use Rattle.face.proofs.uv_mapping.mirrored.Tie as tie
 
 abbrev Inv : tie.InvT-loop
-Inv us out₀ i₀ out i = Filled (λ v. minus f1 (getD us v nan)) 6 out₀ i out
+Inv us out₀ i₀ out i = Filled (λ v. minus f1 (getD us v nan)) 12 out₀ i out
 
 abbrev μ : tie.MeasureT-loop
-μ us out₀ i₀ out i = 6 - i
+μ us out₀ i₀ out i = 12 - i
 
 pub mirrored-spec : {M : Type 1} → statement M
 mirrored-spec =
@@ -28,8 +28,8 @@ mirrored-spec =
     (λ c. search needs)
     (λ c. search needs)
     (λ c. search needs)
-    (λ c. filled-more _ 6 _ _ _ _ (c .before .loop .inv) (c .loop-test .taken) (search needs) refl)
+    (λ c. filled-more _ 12 _ _ _ _ (c .before .loop .inv) (c .loop-test .taken) (search needs) refl)
     (λ c.
     let a = c .before .before .args in
-    let l : length (a .t1) ≡ 6 = search needs in
-    filled-map (minus f1) (a .t1) nan 6 (a .t1) _ _ (c .before .loop .inv) (c .loop-test .left) l l))
+    let l : length (a .t1) ≡ 12 = search needs in
+    filled-map (minus f1) (a .t1) nan 12 (a .t1) _ _ (c .before .loop .inv) (c .loop-test .left) l l))

@@ -1,19 +1,20 @@
 -- `moved`: the loop fills the array, number by number. Assumes nothing.
 use borrow.Author.Needs.{needs}
-use mathlib.Core.Path.{_≡_, refl}
+use mathlib.Core.Path.{_≡_, refl, _∙_}
 use Prim.Native.Nat.{_-_}
 use lib.ListN.{length, getD}
 use lib.Ieee.{nan}
 use Rattle.face.specs.Vec.{plus, times}
-use Rattle.face.proofs.Filling.{Filled, filled-more, filled-map}
+use Rattle.face.proofs.Filling.{Filled, filled-more, filled-all}
+use Rattle.face.proofs.Turns.{moved-turns}
 use Rattle.face.proofs.uv_mapping.moved.Statement.{statement}
 use Rattle.face.proofs.uv_mapping.moved.Tie as tie
 
 abbrev Inv : tie.InvT-loop
-Inv scale offset us out₀ i₀ out i = Filled (λ v. plus (times (getD us v nan) scale) offset) 6 out₀ i out
+Inv us s t out₀ i₀ out i = Filled (λ v. plus (times (getD us v nan) (getD s v nan)) (getD t v nan)) 12 out₀ i out
 
 abbrev μ : tie.MeasureT-loop
-μ scale offset us out₀ i₀ out i = 6 - i
+μ us s t out₀ i₀ out i = 12 - i
 
 pub moved-spec : {M : Type 1} → statement M
 moved-spec =
@@ -21,6 +22,8 @@ moved-spec =
     (tie.spec
     Inv
     μ
+    (λ c κs. search needs)
+    (λ c κs. search needs)
     (λ c. (search needs, refl))
     (λ c. search needs)
     (λ c. search needs)
@@ -28,8 +31,15 @@ moved-spec =
     (λ c. search needs)
     (λ c. search needs)
     (λ c. search needs)
-    (λ c. filled-more _ 6 _ _ _ _ (c .before .loop .inv) (c .loop-test .taken) (search needs) refl)
+    (λ c. search needs)
+    (λ c. search needs)
+    (λ c. search needs)
+    (λ c. search needs)
+    (λ c. filled-more _ 12 _ _ _ _ (c .before .loop .inv) (c .loop-test .taken) (search needs) refl)
     (λ c.
-    let a = c .before .before .args in
-    let l : length (a .t3) ≡ 6 = search needs in
-    filled-map (λ u. plus (times u (a .scale)) (a .offset)) (a .t3) nan 6 (a .t3) _ _ (c .before .loop .inv) (c .loop-test .left) l l))
+    let y = c .before .before in
+    let x = y .before in
+    let a = x .before .args in
+    let l : length (a .t3) ≡ 12 = search needs in
+    filled-all (λ v. plus (times (getD (a .t3) v nan) (getD (x .by-turns .result) v nan)) (getD (y .by-turns2 .result) v nan)) 12 (a .t3) _ _ (c .before .loop .inv) (c .loop-test .left) l
+    ∙ moved-turns (a .scale .x) (a .scale .y) (a .offset .x) (a .offset .y) (a .t3) (x .by-turns .result) (y .by-turns2 .result) l (x .by-turns .ensures) (y .by-turns2 .ensures)))
