@@ -50,6 +50,9 @@ all-in-range-determined xs r s p q = determined p q
 pub twelve-in-range-determined : (l : List Float) (r s : Bool) → r ≡ eqb (length l) 12 && allInRange l → s ≡ eqb (length l) 12 && allInRange l → r ≡ s
 twelve-in-range-determined l r s p q = determined p q
 
+pub nine-in-range-determined : (l : List Float) (r s : Bool) → r ≡ eqb (length l) 9 && allInRange l → s ≡ eqb (length l) 9 && allInRange l → r ≡ s
+nine-in-range-determined l r s p q = determined p q
+
 pub is-exactly-determined : (l n each : ℕ) (r s : Bool) → r ≡ exactly l n each → s ≡ exactly l n each → r ≡ s
 is-exactly-determined l n each r s p q = determined p q
 

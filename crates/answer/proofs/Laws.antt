@@ -69,6 +69,13 @@ module _ {A : Type 0} (ok : A → Bool) (xs : List A) (z : A) where
   pub counted-all : (n i : ℕ) → Counted n i → length xs ≤ i → eqb n i ≡ every ok xs
   counted-all n i p h = sym (&&-true (eqb n i)) ∙ (rw (drop-of-length-le xs h) at (p .2))
 
+  -- the last one asked alone
+  pub counted-last : (n i : ℕ) → Counted n i → length xs ≡ i + 1 → eqb n i && ok (getD xs i z) ≡ every ok xs
+  counted-last n i p h =
+      let some : i < length xs = omega (arith, h) in
+      let none : length xs ≤ suc i = omega (arith, h) in
+      rw (drop-cons xs i z some, drop-of-length-le xs none, &&-true (ok (getD xs i z))) at (p .2)
+
 &&-left : (a b : Bool) → a && b ≡ true → a ≡ true
 &&-left true b e = refl
 &&-left false b e = e

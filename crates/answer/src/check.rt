@@ -75,6 +75,23 @@ pub fn twelve_in_range(numbers: &[f32]) -> bool
     n == 12
 }
 
+// The same of nine, an entry of a table; the ninth is asked alone.
+pub fn nine_in_range(numbers: &[f32]) -> bool
+    ensures { λ r. ⌜ r ≡ eqb (length (now (numbers .entry))) 9 && allInRange (now (numbers .entry)) ⌝ }
+{
+    if numbers.len() != 9 {
+        return false;
+    }
+    let mut n = 0;
+    for k in 0usize..8 {
+        n = counted(n, numbers[k]);
+    }
+    if n == 8 {
+        return in_range(numbers[8]);
+    }
+    false
+}
+
 // Whether a list of a job has its length: so many numbers for each of so many entries.
 pub fn is_exactly(length: usize, entries: usize, each: usize) -> bool
     ensures { λ r. ⌜ r ≡ exactly length entries each ⌝ }

@@ -4,10 +4,10 @@ use mathlib.Core.Bool.{Bool, true, false, _&&_, not, false≢true}
 use borrow.Author.Tests.{eqb-true}
 use lib.Dec.{eqb, leb, ltb}
 use mathlib.Core.List.{List, [], _∷_, map-append}
-use Prim.Native.Nat.{ℕ, _+_, _/_}
+use Prim.Native.Nat.{ℕ, _+_, _/_, _≤_}
 use native.Mathlib.Omega.{arith}
 use lib.ListN.{length, getD}
-use lib.Ieee.{Float}
+use lib.Ieee.{Float, nan}
 use Rattle.face.specs.declared.vec.Vec2.{Vec2}
 use Rattle.face.specs.declared.vec.Vec3.{Vec3}
 use Rattle.face.specs.declared.face.Hexagon.{Hexagon}
@@ -19,15 +19,15 @@ use Rattle.face.specs.declared.uv_mapping.UvOptions.{UvOptions}
 use Rattle.face.specs.Face.{hexagonOf}
 use Rattle.face.specs.Inset.{insetHexagonOf}
 use Rattle.face.specs.Triangles.{insetCounts, hexagonTriangles}
-use Rattle.face.specs.Vec.{flat}
-use Rattle.face.specs.Texture.{plain, altered}
+use Rattle.face.specs.Vec.{off2, flat, times2}
+use Rattle.face.specs.Texture.{plain, altered, halved, wrapped}
 use Rattle.face.proofs.Wraps.{both}
 use Rattle.answer.specs.declared.answer.Refusal.the-variants.{Shape, Range}
 use Rattle.answer.specs.declared.answer.Answer.{Answer}
 use Rattle.answer.specs.declared.answer.Answer.the-variants.{Done, Refused}
-use Rattle.answer.specs.Answers.{given, limited, after}
+use Rattle.answer.specs.Answers.{given, limited, roomed, after}
 use Rattle.answer.specs.Checks.{every, allInRange, exactly}
-use Rattle.answer.proofs.Laws.{given-done}
+use Rattle.answer.proofs.Laws.{given-done, room-for-done}
 use Rattle.placement.specs.declared.options.FaceOptions.{FaceOptions}
 use Rattle.placement.specs.declared.placement.Choice3.{Choice3}
 use Rattle.placement.specs.declared.placement.Choice3.the-variants as choice
@@ -48,7 +48,7 @@ use Rattle.buffers.proofs.Joined.{hexagon-own}
 use Rattle.mesh.specs.Jobs.{roomedIn}
 use Rattle.mesh.proofs.Jobs.{whole-room, face-room}
 use Rattle.plane_builder.specs.declared.Plane.{Plane}
-use Rattle.plane_builder.specs.Plane.{settled, alteredHexagon, alteredPlainHexagon, cornersOf, plainBy, movedPlane, movedAlone, onlyMoved, simple, optionsOf, hexagonBy, planeMesh, planeFaces, shapeOf, placeOf, rangeOf, ready, unset, entered, mapped, checked, planned, wholeAnswer, faceAnswer, built}
+use Rattle.plane_builder.specs.Plane.{settled, alteredHexagon, alteredPlainHexagon, cornersOf, plainBy, movedPlane, movedAlone, onlyMoved, simple, optionsOf, hexagonBy, planeMesh, planeFaces, shapeOf, placeOf, rangeOf, straight, tableless, unset, entered, checked, planned, wholeAnswer, faceAnswer, built}
 
 -- ---- one face alone
 pub alone-size : (m : Mesh) → measure (m ∷ []) ≡ sizeOf m
@@ -80,6 +80,14 @@ pairs-laid t u v w x d e g =
 
 pub pair-same : (u : List Float) (i j : ℕ) (s t : Vec2) (m n : Vec2) → (s ≡ m) × (t ≡ n) → laid (laid u i (two (altered plain s))) j (two (altered plain t)) ≡ laid (laid u i (two (altered plain m))) j (two (altered plain n))
 pair-same u i j s t m n e = ap₂ (λ (x y : Vec2). laid (laid u i (two (altered plain x))) j (two (altered plain y))) (e .0) (e .1)
+
+-- ---- six corners by three numbers, one for each and the opposite one, where each number wraps its two
+abbrev Wraps : List Vec2 → Float → ℕ → Type 0
+Wraps cs one k = (halved (times2 (getD cs k off2) one) ≡ wrapped (getD cs k off2)) × (halved (times2 (getD cs (k + 3) off2) one) ≡ wrapped (getD cs (k + 3) off2))
+
+pub six-wrapped : (cs : List Vec2) (a b c : Float) → Wraps cs a 0 → Wraps cs b 1 → Wraps cs c 2
+    → each (λ k. halved (times2 (getD cs k off2) (getD (a ∷ b ∷ c ∷ a ∷ b ∷ c ∷ []) k nan))) 6 ≡ each (λ k. wrapped (getD cs k off2)) 6
+six-wrapped cs a b c p q r = rw (p .0, q .0, r .0, p .1, q .1, r .1)
 
 -- ---- without an inset: the uvs of the face by itself, and the plane's mesh
 pub plain-hexagon-altered : (o : UvOptions) (h : Hexagon) → alteredHexagon o (insetHexagonOf None h) ≡ insetHexagonOf None (alteredPlainHexagon o h)
@@ -170,6 +178,12 @@ module _ (job : Plane) (l ns : List Float) (ms : List ℕ) where
   pub range-decides : shapeOf job l ns ms ≡ true → (y : Bool) → rangeOf job l ns ≡ y → given y Range (limited (measure (planeFaces job l ns ms))) ≡ planned job l ns ms
   range-decides e y f = sym (ap₂ (λ (p q : Bool). given p Shape (given q Range (limited (measure (planeFaces job l ns ms))))) e f)
 
+-- ---- room for six vertices and twelve indices, as four lengths
+pub six-room : (v n t i : ℕ) (a : Answer) (c : Counts) → a ≡ roomed (Done (insetCounts None 6 4)) v n t i → a ≡ Done c → (18 ≤ v) × (18 ≤ n) × (12 ≤ t) × (12 ≤ i)
+six-room v n t i a c e d =
+    let r = room-for-done (insetCounts None 6 4) v n t i c (sym e ∙ d) .1 in
+    (omega (arith, r .vertices), omega (arith, r .normals), omega (arith, r .uvs), omega (arith, r .indices))
+
 -- ---- a plane whose plan is known
 pub record Known (job : Plane) (l ns : List Float) (ms : List ℕ) : Type 0 where
   pub only : onlyMoved job l ≡ true
@@ -198,22 +212,35 @@ empty : {A : Type 0} (xs : List A) → length xs ≡ 0 → xs ≡ []
 empty [] e = refl
 empty (x ∷ xs) e = absurd (omega (arith, e))
 
-module _ (job : Plane) (l ns : List Float) (ms : List ℕ) (h : ready job l ns ms ≡ true) where
-  parts : (simple job l ≡ true) × ((eqb (length ns) 0 && eqb (length ms) 0) && (allInRange l && placeOf job) ≡ true)
-  parts = both (simple job l) ((eqb (length ns) 0 && eqb (length ms) 0) && (allInRange l && placeOf job)) h
+module _ (job : Plane) (l ns : List Float) (ms : List ℕ) (g : straight job l ≡ true) where
+  straight-parts : (onlyMoved job l ≡ true) × (allInRange l && placeOf job ≡ true)
+  straight-parts = both (onlyMoved job l) (allInRange l && placeOf job) g
 
-  pub ready-plain : plain ≡ optionsOf job ns ms .uv
-  ready-plain = ap (λ (o : FaceOptions). o .uv) (sym (simple-options job l ns ms (parts .0)))
+  pub straight-twelve : length l ≡ 12
+  straight-twelve = moved-is job l (straight-parts .0) .twelve
 
-  pub ready-known : Known job l ns ms
-  ready-known =
-      let s = simple-is job l (parts .0) in
-      let m = moved-is job l (s .1) in
-      let p = both (eqb (length ns) 0 && eqb (length ms) 0) (allInRange l && placeOf job) (parts .1) in
-      let q = both (eqb (length ns) 0) (eqb (length ms) 0) (p .0) in
-      let no-numbers : ns ≡ [] = empty ns (eqb-true (length ns) 0 (q .0)) in
-      let no-marks : ms ≡ [] = empty ms (eqb-true (length ms) 0 (q .1)) in
-      record { only = s .1; shape = rw (no-numbers, no-marks, s .0, m .twelve); range = rw no-numbers (p .1); bare = ap (λ (o : FaceOptions). o .inset) (simple-options job l ns ms (parts .0)) }
+  -- where the table is in range, all is
+  straight-range : allInRange ns ≡ true → rangeOf job l ns ≡ true
+  straight-range e = ap (λ (x : Bool). allInRange l && (x && placeOf job)) e ∙ straight-parts .1
+
+  module _ (h : tableless job ns ms ≡ true) where
+    tableless-default : job .option ≡ 255
+    tableless-default = eqb-true (job .option) 255 (both (eqb (job .option) 255) (eqb (length ns) 0 && eqb (length ms) 0) h .0)
+
+    pub tableless-plain : plain ≡ optionsOf job ns ms .uv
+    tableless-plain = ap (λ (o : FaceOptions). o .uv) (sym (by-default ns ms (job .option) tableless-default))
+
+    pub tableless-known : Known job l ns ms
+    tableless-known =
+        let q = both (eqb (length ns) 0) (eqb (length ms) 0) (both (eqb (job .option) 255) (eqb (length ns) 0 && eqb (length ms) 0) h .1) in
+        let no-numbers : ns ≡ [] = empty ns (eqb-true (length ns) 0 (q .0)) in
+        let no-marks : ms ≡ [] = empty ms (eqb-true (length ms) 0 (q .1)) in
+        record {
+          only = straight-parts .0;
+          shape = rw (no-numbers, no-marks, tableless-default, straight-twelve);
+          range = straight-range (ap allInRange no-numbers);
+          bare = ap (λ (o : FaceOptions). o .inset) (by-default ns ms (job .option) tableless-default);
+        }
 
 -- by the one entry of a table
 record Unset (ms : List ℕ) : Type 0 where
@@ -243,22 +270,28 @@ bare-entry ns ms k z e u =
     ∙ ap₂ (λ (n m : ℕ). pick (not (eqb 0 255) && (ltb 0 (n / 9) && ltb 0 (m / 4))) (entryAt ns ms 0) plainOptions .inset) e (u .size)
     ∙ ap (λ (m : ℕ). insetOf m (numberAt ns 0 8) (eqb (markAt ms 0 3) 1)) (u .kind)
 
-module _ (job : Plane) (l ns : List Float) (ms : List ℕ) (h : mapped job l ns ms ≡ true) where
-  pub mapped-first : job .option ≡ 0
-  mapped-first = eqb-true (job .option) 0 (both (eqb (job .option) 0) (eqb (length ns) 9 && unset ms) (both (entered job ns ms) (onlyMoved job l && rangeOf job l ns) h .0) .0)
+module _ (job : Plane) (l ns : List Float) (ms : List ℕ) (h : entered job ns ms ≡ true) where
+  entered-parts : (eqb (job .option) 0 ≡ true) × (unset ms && (eqb (length ns) 9 && allInRange ns) ≡ true)
+  entered-parts = both (eqb (job .option) 0) (unset ms && (eqb (length ns) 9 && allInRange ns)) h
 
-  pub mapped-known : Known job l ns ms
-  mapped-known =
-      let p = both (entered job ns ms) (onlyMoved job l && rangeOf job l ns) h in
-      let r = both (onlyMoved job l) (rangeOf job l ns) (p .1) in
-      let q = both (eqb (length ns) 9) (unset ms) (both (eqb (job .option) 0) (eqb (length ns) 9 && unset ms) (p .0) .1) in
+  entered-first : job .option ≡ 0
+  entered-first = eqb-true (job .option) 0 (entered-parts .0)
+
+  -- its options are those of the first entry
+  pub entered-options : (o : FaceOptions) → o ≡ optionAt ns ms 0 → o .uv ≡ optionsOf job ns ms .uv
+  entered-options o e = ap (λ (x : FaceOptions). x .uv) (e ∙ ap (optionAt ns ms) (sym entered-first))
+
+  pub entered-known : straight job l ≡ true → Known job l ns ms
+  entered-known g =
+      let p = both (unset ms) (eqb (length ns) 9 && allInRange ns) (entered-parts .1) in
+      let q = both (eqb (length ns) 9) (allInRange ns) (p .1) in
       let nine = eqb-true (length ns) 9 (q .0) in
-      let u = unset-is ms (q .1) in
+      let u = unset-is ms (p .0) in
       record {
-        only = r .0;
-        shape = rw (moved-is job l (r .0) .twelve, one-table ns ms nine u, mapped-first, u .size);
-        range = r .1;
-        bare = bare-entry ns ms (job .option) mapped-first nine u;
+        only = straight-parts job l ns ms g .0;
+        shape = rw (straight-twelve job l ns ms g, one-table ns ms nine u, entered-first, u .size);
+        range = straight-range job l ns ms g (q .1);
+        bare = bare-entry ns ms (job .option) entered-first nine u;
       }
 
 -- the face of the option, laid where there is room, is the plane

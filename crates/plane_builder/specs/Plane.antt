@@ -97,21 +97,21 @@ placeOf job = inRange2 (job .position) && placementInRange (job .placement)
 abbrev pub rangeOf : Plane → List Float → List Float → Bool
 rangeOf job l ns = allInRange l && (allInRange ns && (placeOf job))
 
--- a simple plane with no table and every number in range, so that only room is asked for; speed alone hangs on this test
-abbrev pub ready : Plane → List Float → List Float → List ℕ → Bool
-ready job l ns ms = simple job l && ((eqb (length ns) 0 && eqb (length ms) 0) && (allInRange l && placeOf job))
+-- a plane that is only moved, its corners and its place in range; speed alone hangs on this test and on the next three
+abbrev pub straight : Plane → List Float → Bool
+straight job l = onlyMoved job l && (allInRange l && placeOf job)
+
+-- one of the default options, without a table
+abbrev pub tableless : Plane → List Float → List ℕ → Bool
+tableless job ns ms = eqb (job .option) 255 && (eqb (length ns) 0 && eqb (length ms) 0)
 
 -- the marks of one entry without an inset
 abbrev pub unset : List ℕ → Bool
 unset ms = eqb (length ms) 4 && (eqb (getD ms 2 0) 0 && (ltb (getD ms 0 0) 2 && (ltb (getD ms 1 0) 2 && ltb (getD ms 3 0) 2)))
 
--- a table of the plane's one entry, which has no inset
+-- a table of the plane's one entry, which has no inset and whose nine numbers are in range
 abbrev pub entered : Plane → List Float → List ℕ → Bool
-entered job ns ms = eqb (job .option) 0 && (eqb (length ns) 9 && unset ms)
-
--- such a plane that is only moved, with every number in range, so that only room is asked for; speed alone hangs on this test
-abbrev pub mapped : Plane → List Float → List Float → List ℕ → Bool
-mapped job l ns ms = entered job ns ms && (onlyMoved job l && rangeOf job l ns)
+entered job ns ms = eqb (job .option) 0 && (unset ms && (eqb (length ns) 9 && allInRange ns))
 
 -- R11: 1, then 2; it has no neighbour, so no 3
 abbrev pub checked : Plane → List Float → List Float → List ℕ → Answer → Answer

@@ -4,7 +4,6 @@ mod only_moved;
 
 ghost use mathlib.Core.Path.{_≡_};
 ghost use mathlib.Core.Bool.{true, _&&_};
-ghost use lib.Dec.{eqb};
 ghost use Prim.Native.Nat.{_≤_};
 ghost use lib.ListN.{length, getD};
 ghost use lib.Ieee.{nan};
@@ -20,7 +19,7 @@ ghost use Rattle.mesh.specs.Stored.{uvFrom};
 ghost use Rattle.buffers.specs.Mesh.{none, measure};
 ghost use Rattle.buffers.specs.Laying.{four, fits, lay, layAll, laidIfFits};
 ghost use Rattle.buffers.specs.Faces.{hexagonMesh, plainHexagonMesh};
-ghost use Rattle.plane_builder.specs.Plane.{movedAlone, onlyMoved, simple, unset, entered, mapped, settled, alteredHexagon, alteredPlainHexagon, cornersOf, hexagonBy, plainBy, movedPlane, ready, planeFaces, shapeOf, placeOf, rangeOf, planned, wholeAnswer, faceAnswer, built, faced};
+ghost use Rattle.plane_builder.specs.Plane.{movedAlone, onlyMoved, simple, straight, tableless, unset, entered, settled, alteredHexagon, alteredPlainHexagon, cornersOf, hexagonBy, plainBy, movedPlane, planeFaces, shapeOf, placeOf, rangeOf, planned, wholeAnswer, faceAnswer, built, faced};
 use answer::answer::Answer;
 use answer::answer::Refusal;
 use face::face::Hexagon;
@@ -66,7 +65,7 @@ pub fn pair_at(list: &[f32], at: u32) -> Vec2
     }
 }
 
-fn corners_within(corners: &[f32]) -> [Vec2; 6]
+pub(crate) fn corners_within(corners: &[f32]) -> [Vec2; 6]
     requires { ⌜ 12 ≤ length (now corners) ⌝ }
     ensures { λ r. ⌜ r ≡ cornersOf (now (corners .entry)) ⌝ }
 {
@@ -419,24 +418,26 @@ pub fn plan(job: Plane, corners: &[f32], numbers: &[f32], marks: &[u8]) -> Answe
     Answer::Refused(Refusal::Shape)
 }
 
-fn has_no_table(numbers: &[f32], marks: &[u8]) -> bool
-    ensures { λ r. ⌜ r ≡ eqb (length (now (numbers .entry))) 0 && eqb (length (now (marks .entry))) 0 ⌝ }
+// Whether the plane goes straight into the buffers once its options are known: all but the table is in
+// range. Most planes are such.
+fn is_straight(job: Plane, corners: &[f32]) -> bool
+    ensures { λ r. ⌜ r ≡ straight job (now (corners .entry)) ⌝ }
 {
-    if numbers.len() == 0 {
-        return marks.len() == 0;
+    if is_moved(job, corners) {
+        if answer::check::twelve_in_range(corners) {
+            return is_place(job);
+        }
     }
     false
 }
 
-// Whether nothing but its room is left to ask for. Most planes are such, and their plan is known.
-fn is_ready(job: Plane, corners: &[f32], numbers: &[f32], marks: &[u8]) -> bool
-    ensures { λ r. ⌜ r ≡ ready job (now (corners .entry)) (now (numbers .entry)) (now (marks .entry)) ⌝ }
+// Whether the plane is one of the default options, and no table is lent.
+fn has_no_table(job: Plane, numbers: &[f32], marks: &[u8]) -> bool
+    ensures { λ r. ⌜ r ≡ tableless job (now (numbers .entry)) (now (marks .entry)) ⌝ }
 {
-    if is_simple(job, corners) {
-        if has_no_table(numbers, marks) {
-            if answer::check::twelve_in_range(corners) {
-                return is_place(job);
-            }
+    if job.option == 255 {
+        if numbers.len() == 0 {
+            return marks.len() == 0;
         }
     }
     false
@@ -461,27 +462,13 @@ fn is_unset(marks: &[u8]) -> bool
     marks[3] < 2
 }
 
-// Whether the table is the plane's one entry, which has no inset.
+// Whether the table is the plane's one entry, without an inset and in range, as with a texture's rectangle.
 fn is_entered(job: Plane, numbers: &[f32], marks: &[u8]) -> bool
     ensures { λ r. ⌜ r ≡ entered job (now (numbers .entry)) (now (marks .entry)) ⌝ }
 {
     if job.option == 0 {
-        if numbers.len() == 9 {
-            return is_unset(marks);
-        }
-    }
-    false
-}
-
-// The same of a plane with one entry of its own and no inset, as with a texture's rectangle.
-fn is_mapped(job: Plane, corners: &[f32], numbers: &[f32], marks: &[u8]) -> bool
-    ensures { λ r. ⌜ r ≡ mapped job (now (corners .entry)) (now (numbers .entry)) (now (marks .entry)) ⌝ }
-{
-    if is_entered(job, numbers, marks) {
-        if is_moved(job, corners) {
-            if answer::check::twelve_in_range(corners) {
-                return is_filled(job, numbers);
-            }
+        if is_unset(marks) {
+            return answer::check::nine_in_range(numbers);
         }
     }
     false
@@ -498,7 +485,7 @@ fn room_for_six(vertices: usize, normals: usize, uvs: usize, indices: usize) -> 
     answer::answer::room(plan, vertices, normals, uvs, indices)
 }
 
-// A ready plane of the default options, moved by so much.
+// A straight plane of the default options, moved by so much.
 fn build_ready(
     by: Vec3,
     corners: &[f32],
@@ -584,47 +571,6 @@ fn build_any(
     }
 }
 
-// A plane with one entry of its own, or any.
-fn build_other(
-    job: Plane,
-    corners: &[f32],
-    numbers: &[f32],
-    marks: &[u8],
-    vertices: &mut [f32],
-    normals: &mut [f32],
-    uvs: &mut [f32],
-    indices: &mut [u16],
-) -> Answer
-    ensures answer { λ r. ⌜ r ≡ wholeAnswer job (now (corners .entry)) (now (numbers .entry)) (now (marks .entry)) (four (now (vertices .entry)) (now (normals .entry)) (now (uvs .entry)) (now (indices .entry))) ⌝ }
-    ensures buffers { λ _. ⌜ four (now (vertices .exit)) (now (normals .exit)) (now (uvs .exit)) (now (indices .exit)) ≡ built job (now (corners .entry)) (now (numbers .entry)) (now (marks .entry)) (four (now (vertices .entry)) (now (normals .entry)) (now (uvs .entry)) (now (indices .entry))) ⌝ }
-{
-    if is_mapped(job, corners, numbers, marks) {
-        let s = job.placement;
-        let offset = s.offset;
-        let o = placement::options::option_at(numbers, marks, 0);
-        let uv = o.uv;
-        return build_mapped(
-            uv,
-            join(offset, job.position),
-            corners,
-            vertices,
-            normals,
-            uvs,
-            indices,
-        );
-    }
-    build_any(
-        job,
-        corners,
-        numbers,
-        marks,
-        vertices,
-        normals,
-        uvs,
-        indices,
-    )
-}
-
 pub fn build(
     job: Plane,
     corners: &[f32],
@@ -638,19 +584,20 @@ pub fn build(
     ensures answer { λ r. ⌜ r ≡ wholeAnswer job (now (corners .entry)) (now (numbers .entry)) (now (marks .entry)) (four (now (vertices .entry)) (now (normals .entry)) (now (uvs .entry)) (now (indices .entry))) ⌝ }
     ensures buffers { λ _. ⌜ four (now (vertices .exit)) (now (normals .exit)) (now (uvs .exit)) (now (indices .exit)) ≡ built job (now (corners .entry)) (now (numbers .entry)) (now (marks .entry)) (four (now (vertices .entry)) (now (normals .entry)) (now (uvs .entry)) (now (indices .entry))) ⌝ }
 {
-    if is_ready(job, corners, numbers, marks) {
+    if is_straight(job, corners) {
         let s = job.placement;
         let offset = s.offset;
-        return build_ready(
-            join(offset, job.position),
-            corners,
-            vertices,
-            normals,
-            uvs,
-            indices,
-        );
+        let by = join(offset, job.position);
+        if has_no_table(job, numbers, marks) {
+            return build_ready(by, corners, vertices, normals, uvs, indices);
+        }
+        if is_entered(job, numbers, marks) {
+            let o = placement::options::option_at(numbers, marks, 0);
+            let uv = o.uv;
+            return build_mapped(uv, by, corners, vertices, normals, uvs, indices);
+        }
     }
-    build_other(
+    build_any(
         job,
         corners,
         numbers,

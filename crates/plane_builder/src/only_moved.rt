@@ -3,9 +3,10 @@
 ghost use mathlib.Core.Path.{_≡_};
 ghost use Prim.Native.Nat.{_+_, _*_, _≤_};
 ghost use lib.ListN.{length, getD};
+ghost use lib.Ieee.{nan};
 ghost use Rattle.face.specs.Lists.{each, chain};
 ghost use mathlib.Core.Bool.{true};
-ghost use Rattle.face.specs.Vec.{off2, plus3, flat, upward, times2, ordinary};
+ghost use Rattle.face.specs.Vec.{off2, off3, plus3, flat, upward, times2, ordinary};
 ghost use Rattle.face.specs.Texture.{plain, altered, halved, wrapped};
 ghost use Rattle.face.specs.Triangles.{hexagonTriangles};
 ghost use Rattle.mesh.specs.Stored.{cornerFrom};
@@ -57,13 +58,31 @@ fn moved(p: Vec2, by: Vec3) -> Vec3
     face::vec::add3(lying, by)
 }
 
+// The six corners moved, before any is written: what is done to one is done to several at once.
+fn spots(by: Vec3, cs: [Vec2; 6]) -> [Vec3; 6]
+    ensures { λ r. ⌜ r ≡ each (λ k. plus3 (flat (getD cs k off2)) by) 6 ⌝ }
+{
+    let mut out = [by; 6];
+    for k in 0usize..6 {
+        out[k] = moved(cs[k], by);
+    }
+    out
+}
+
+fn put_spots(ps: [Vec3; 6], vertices: &mut [f32])
+    requires { ⌜ 18 ≤ length (now vertices) ⌝ }
+    ensures { λ _. ⌜ now (vertices .exit) ≡ laid (now (vertices .entry)) 0 (chain (λ k. three (getD ps k off3)) 6) ⌝ }
+{
+    for k in 0usize..6 {
+        put3(vertices, 3 * k, ps[k]);
+    }
+}
+
 fn put_points(by: Vec3, corners: &[f32], vertices: &mut [f32])
     requires { ⌜ (length (now corners) ≡ 12) × (18 ≤ length (now vertices)) ⌝ }
     ensures { λ _. ⌜ now (vertices .exit) ≡ laid (now (vertices .entry)) 0 (chain (λ k. three (plus3 (flat (cornerFrom (now (corners .entry)) k)) by)) 6) ⌝ }
 {
-    for k in 0usize..6 {
-        put3(vertices, 3 * k, moved(corner_at(corners, k), by));
-    }
+    put_spots(spots(by, crate::corners_within(corners)), vertices);
 }
 
 fn put_normals(normals: &mut [f32])
@@ -153,12 +172,15 @@ fn put_uvs(corners: &[f32], uvs: &mut [f32])
     put_each(corners, uvs);
 }
 
-// A corner wrapped by its reciprocal length.
-fn wrap_at(corners: &[f32], k: usize, one: f32) -> Vec2
-    requires { ⌜ (length (now corners) ≡ 12) × (k ≤ 5) ⌝ }
-    ensures { λ r. ⌜ r ≡ halved (times2 (cornerFrom (now (corners .entry)) k) one) ⌝ }
+// Six corners wrapped, each by its reciprocal length.
+fn wrap_by(cs: [Vec2; 6], ones: [f32; 6]) -> [Vec2; 6]
+    ensures { λ r. ⌜ r ≡ each (λ k. halved (times2 (getD cs k off2) (getD ones k nan))) 6 ⌝ }
 {
-    face::uv_mapping::halve(face::vec::scale2(corner_at(corners, k), one))
+    let mut out = cs;
+    for k in 0usize..6 {
+        out[k] = face::uv_mapping::halve(face::vec::scale2(cs[k], ones[k]));
+    }
+    out
 }
 
 // The six corners wrapped, before any options alter them; roots are shared as above.
@@ -166,23 +188,14 @@ fn wrap(corners: &[f32]) -> [Vec2; 6]
     requires { ⌜ length (now corners) ≡ 12 ⌝ }
     ensures { λ r. ⌜ r ≡ each (λ k. wrapped (cornerFrom (now (corners .entry)) k)) 6 ⌝ }
 {
-    let p = corner_at(corners, 0);
-    let q = corner_at(corners, 1);
-    let r = corner_at(corners, 2);
-    let a = face::uv_mapping::one_of_both(p, corner_at(corners, 3));
-    let b = face::uv_mapping::one_of_three(p, a, q, corner_at(corners, 4));
-    let c = face::uv_mapping::one_of_three(p, a, r, corner_at(corners, 5));
+    let cs = crate::corners_within(corners);
+    let a = face::uv_mapping::one_of_both(cs[0], cs[3]);
+    let b = face::uv_mapping::one_of_three(cs[0], a, cs[1], cs[4]);
+    let c = face::uv_mapping::one_of_three(cs[0], a, cs[2], cs[5]);
     if are_ordinary(a, b, c) {
-        return [
-            wrap_at(corners, 0, a),
-            wrap_at(corners, 1, b),
-            wrap_at(corners, 2, c),
-            wrap_at(corners, 3, a),
-            wrap_at(corners, 4, b),
-            wrap_at(corners, 5, c),
-        ];
+        return wrap_by(cs, [a, b, c, a, b, c]);
     }
-    face::uv_mapping::wrap_six(crate::corners_of(corners))
+    face::uv_mapping::wrap_six(cs)
 }
 
 fn put_six(ts: [Vec2; 6], uvs: &mut [f32])

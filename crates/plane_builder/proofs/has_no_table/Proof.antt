@@ -7,5 +7,6 @@ pub has-no-table-spec : {M : Type 1} → statement M
 has-no-table-spec =
     tie.close
     (tie.spec
-    (λ c. rw (eq-eqb _ _ (c .if1 .taken)))
+    (λ c. rw (eq-eqb _ _ (c .before .if1 .taken), eq-eqb _ _ (c .if2 .taken)))
+    (λ c. rw (eq-eqb _ _ (c .before .if1 .taken), ne-eqb _ _ (c .if2 .left)))
     (λ c. rw (ne-eqb _ _ (c .if1 .left))))

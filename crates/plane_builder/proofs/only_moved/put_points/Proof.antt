@@ -1,35 +1,15 @@
--- `put_points`: a turn lays one of six. Assumes nothing.
+-- `put_points`: the six moved, and written. Assumes nothing.
 use borrow.Author.Needs.{needs}
-use Prim.Native.Nat.{_-_}
-use native.Mathlib.Nat.{zero-add}
-use native.Mathlib.Omega.{arith}
-use mathlib.Core.Path.{refl, sym, _∙_}
-use Rattle.face.specs.Vec.{plus3, flat}
-use Rattle.mesh.specs.Stored.{cornerFrom}
-use Rattle.buffers.specs.Laying.{three}
-use Rattle.buffers.proofs.Laid.{laid-nothing, Laying, laying-more, laying-done}
+use mathlib.Core.Path.{_∙_}
 use Rattle.plane_builder.proofs.only_moved.put_points.Statement.{statement}
 use Rattle.plane_builder.proofs.only_moved.put_points.Tie as tie
-
-abbrev Inv : tie.InvT-loop
-Inv by corners vertices₀ k₀ vertices k = Laying (λ j. three (plus3 (flat (cornerFrom corners j)) by)) 6 vertices₀ 0 k vertices
-
-abbrev μ : tie.MeasureT-loop
-μ by corners vertices₀ k₀ vertices k = 6 - k
 
 pub put-points-spec : {M : Type 1} → statement M
 put-points-spec =
     tie.close
     (tie.spec
-    Inv
-    μ
-    (λ c. (omega arith, refl, sym (laid-nothing _ _)))
-    (λ c. search needs)
     (λ c κs. search needs)
     (λ c κs. search needs)
     (λ c κs. search needs)
     (λ c. search needs)
-    (λ c. search needs)
-    (λ c. laying-more _ 3 (λ k. refl) _ _ _ _ _ _ (c .before .before .before .before .before .before .before .loop .inv) (c .before .before .before .before .before .before .loop-test .taken) (c .before .before .put3 .ensures ∙ rw (zero-add, c .before .before .before .moved .ensures, c .before .before .before .before .corner-at .ensures)))
-    (λ c. search needs)
-    (λ c. laying-done _ _ _ _ _ _ (c .before .loop .inv) (c .loop-test .left)))
+    (λ c. c .before .before .put-spots .ensures ∙ rw (c .before .before .before .before .spots .ensures, c .before .before .before .before .before .corners-within .ensures)))
