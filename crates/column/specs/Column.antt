@@ -32,7 +32,7 @@ use Rattle.buffers.specs.Mesh.{Mesh, none, also}
 use Rattle.buffers.specs.Faces.{quadMesh, hexagonMesh}
 use Rattle.mesh.specs.Stored.{uvFrom}
 use Rattle.mesh.specs.Jobs.{plannedOf}
-use Rattle.plane_builder.specs.Plane.{settled, alteredHexagon, cornersOf}
+use Rattle.plane_laying.specs.Moving.{settled, alteredHexagon, cornersOf}
 use Rattle.column.specs.declared.Subdivisions.{Subdivisions}
 use Rattle.column.specs.declared.Subdivisions.the-variants as subdivisions
 use Rattle.column.specs.declared.Choice.{Choice}

@@ -13,8 +13,8 @@ use Rattle.placement.specs.declared.options.FaceOptions.{FaceOptions}
 use Rattle.placement.specs.Placing.{placedQuad, placedHexagon, placedPlainHexagon, halfTurnedHexagon, halfTurnedPlainHexagon}
 use Rattle.placement.proofs.Plain.{plain-quad-placed, plain-hexagon-placed, plain-hexagon-half-turned}
 use Rattle.buffers.specs.Faces.{quadMesh, hexagonMesh, plainQuadMesh, plainHexagonMesh}
-use Rattle.plane_builder.specs.Plane.{settled, alteredHexagon, cornersOf}
-use Rattle.plane_builder.proofs.Laws.{plain-hexagon-altered}
+use Rattle.plane_laying.specs.Moving.{settled, alteredHexagon, cornersOf}
+use Rattle.plane_laying.proofs.Laws.{plain-hexagon-altered}
 use Rattle.column.specs.declared.Column.{Column}
 use Rattle.column.specs.Column.{Lists, movedBy, topOffset, topHexagon, bottomHexagon}
 use Rattle.column_faces.specs.declared.wall.Wall.{Wall}

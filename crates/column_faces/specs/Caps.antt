@@ -5,7 +5,7 @@ use Rattle.face.specs.declared.face.Hexagon.{Hexagon}
 use Rattle.face.specs.Face.{hexagonOf}
 use Rattle.placement.specs.declared.options.FaceOptions.{FaceOptions}
 use Rattle.placement.specs.Placing.{placedPlainHexagon, halfTurnedPlainHexagon}
-use Rattle.plane_builder.specs.Plane.{settled, alteredPlainHexagon, cornersOf}
+use Rattle.plane_laying.specs.Moving.{settled, alteredPlainHexagon, cornersOf}
 use Rattle.column.specs.declared.Column.{Column}
 use Rattle.column.specs.Column.{Lists, movedBy, topOffset}
 

@@ -9,7 +9,7 @@ use Rattle.face.specs.Inset.{insetQuadOf}
 use Rattle.placement.specs.declared.options.FaceOptions.{FaceOptions}
 use Rattle.placement.specs.Placing.{placedQuad, placedPlainQuad}
 use Rattle.mesh.specs.Stored.{uvFrom}
-use Rattle.plane_builder.specs.Plane.{settled}
+use Rattle.plane_laying.specs.Moving.{settled}
 use Rattle.column.specs.declared.Column.{Column}
 use Rattle.column.specs.Column.{Lists, float, delta, partQuad}
 use Rattle.column_faces.specs.declared.wall.Wall.{Wall}

@@ -54,9 +54,9 @@ fn cap_hexagon(corners: &[f32], o: FaceOptions, first: Vec3) -> InsetHexagon
 {
     let inset = o.inset;
     let uv = o.uv;
-    let plain = face::face::new_hexagon(plane_builder::corners_of(corners));
+    let plain = face::face::new_hexagon(plane_laying::corners_of(corners));
     let whole = insetting::inset_hexagon(inset, plain);
-    plane_builder::alter(
+    plane_laying::alter(
         uv,
         placement::placement::place_hexagon(moving_by(first), whole),
     )
@@ -67,7 +67,7 @@ fn top_hexagon(job: Column, corners: &[f32], o: FaceOptions) -> InsetHexagon
 {
     let s = job.placement;
     let cap = cap_hexagon(corners, o, top_offset(job.height));
-    placement::placement::place_hexagon(plane_builder::settle(s, job.position), cap)
+    placement::placement::place_hexagon(plane_laying::settle(s, job.position), cap)
 }
 
 fn bottom_hexagon(job: Column, corners: &[f32], o: FaceOptions) -> InsetHexagon
@@ -75,7 +75,7 @@ fn bottom_hexagon(job: Column, corners: &[f32], o: FaceOptions) -> InsetHexagon
 {
     let s = job.placement;
     let cap = placement::placement::half_turn_hexagon(cap_hexagon(corners, o, zero()));
-    placement::placement::place_hexagon(plane_builder::settle(s, job.position), cap)
+    placement::placement::place_hexagon(plane_laying::settle(s, job.position), cap)
 }
 
 // Without an inset a cap has half the points, so it goes a way of its own.
@@ -83,8 +83,8 @@ fn plain_cap(corners: &[f32], o: FaceOptions, first: Vec3) -> Hexagon
     ensures { λ r. ⌜ r ≡ plainCap (lists [] (now (corners .entry)) [] []) o first ⌝ }
 {
     let uv = o.uv;
-    let plain = face::face::new_hexagon(plane_builder::corners_of(corners));
-    plane_builder::alter_plain(
+    let plain = face::face::new_hexagon(plane_laying::corners_of(corners));
+    plane_laying::alter_plain(
         uv,
         placement::placement::place_plain_hexagon(moving_by(first), plain),
     )
@@ -95,7 +95,7 @@ fn plain_top(job: Column, corners: &[f32], o: FaceOptions) -> Hexagon
 {
     let s = job.placement;
     let cap = plain_cap(corners, o, top_offset(job.height));
-    placement::placement::place_plain_hexagon(plane_builder::settle(s, job.position), cap)
+    placement::placement::place_plain_hexagon(plane_laying::settle(s, job.position), cap)
 }
 
 fn plain_bottom(job: Column, corners: &[f32], o: FaceOptions) -> Hexagon
@@ -103,7 +103,7 @@ fn plain_bottom(job: Column, corners: &[f32], o: FaceOptions) -> Hexagon
 {
     let s = job.placement;
     let cap = placement::placement::half_turn_plain_hexagon(plain_cap(corners, o, zero()));
-    placement::placement::place_plain_hexagon(plane_builder::settle(s, job.position), cap)
+    placement::placement::place_plain_hexagon(plane_laying::settle(s, job.position), cap)
 }
 
 pub fn put_top(

@@ -33,8 +33,8 @@ pub fn wall_of(job: Column, pairs: &[f32], d: u8, o: FaceOptions) -> Wall
     let uv = o.uv;
     let inset = o.inset;
     let at = 4 * (d as u32);
-    let left = plane_builder::pair_at(pairs, at);
-    let right = plane_builder::pair_at(pairs, at + 2);
+    let left = plane_laying::pair_at(pairs, at);
+    let right = plane_laying::pair_at(pairs, at + 2);
     let base = face::face::new_quad(left, right, 0.0, 0.0);
     let normal = base.normal;
     let plain = base.uvs;
@@ -46,7 +46,7 @@ pub fn wall_of(job: Column, pairs: &[f32], d: u8, o: FaceOptions) -> Wall
         normal: normal,
         uvs: uvs,
         inset: inset,
-        placement: plane_builder::settle(s, job.position),
+        placement: plane_laying::settle(s, job.position),
     }
 }
 

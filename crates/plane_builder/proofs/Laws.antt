@@ -1,14 +1,13 @@
 -- A plane's plan, and what laying its one face asks for. Assumes nothing.
 use mathlib.Core.Path.{_≡_, refl, sym, ap, ap₂, _∙_}
 use mathlib.Core.Bool.{Bool, true, false, _&&_, not, false≢true}
-use borrow.Author.Tests.{eqb-true}
+use borrow.Author.Tests.{eqb-true, eq-eqb}
 use lib.Dec.{eqb, leb, ltb}
-use mathlib.Core.List.{List, [], _∷_, map-append}
-use Prim.Native.Nat.{ℕ, _+_, _/_, _≤_}
+use mathlib.Core.List.{List, [], _∷_}
+use Prim.Native.Nat.{ℕ, _/_}
 use native.Mathlib.Omega.{arith}
 use lib.ListN.{length, getD}
-use lib.Ieee.{Float, nan}
-use Rattle.face.specs.declared.vec.Vec2.{Vec2}
+use lib.Ieee.{Float}
 use Rattle.face.specs.declared.vec.Vec3.{Vec3}
 use Rattle.face.specs.declared.face.Hexagon.{Hexagon}
 use Rattle.face.specs.declared.inset.Inset.{Inset}
@@ -19,15 +18,15 @@ use Rattle.face.specs.declared.uv_mapping.UvOptions.{UvOptions}
 use Rattle.face.specs.Face.{hexagonOf}
 use Rattle.face.specs.Inset.{insetHexagonOf}
 use Rattle.face.specs.Triangles.{insetCounts, hexagonTriangles}
-use Rattle.face.specs.Vec.{off2, flat, times2}
-use Rattle.face.specs.Texture.{plain, altered, halved, wrapped}
+use Rattle.face.specs.Vec.{flat}
+use Rattle.face.specs.Texture.{plain}
 use Rattle.face.proofs.Wraps.{both}
 use Rattle.answer.specs.declared.answer.Refusal.the-variants.{Shape, Range}
 use Rattle.answer.specs.declared.answer.Answer.{Answer}
 use Rattle.answer.specs.declared.answer.Answer.the-variants.{Done, Refused}
-use Rattle.answer.specs.Answers.{given, limited, roomed, after}
+use Rattle.answer.specs.Answers.{given, limited, after}
 use Rattle.answer.specs.Checks.{every, allInRange, exactly}
-use Rattle.answer.proofs.Laws.{given-done, room-for-done}
+use Rattle.answer.proofs.Laws.{given-done, Roomy, room-enough, after-done}
 use Rattle.placement.specs.declared.options.FaceOptions.{FaceOptions}
 use Rattle.placement.specs.declared.placement.Choice3.{Choice3}
 use Rattle.placement.specs.declared.placement.Choice3.the-variants as choice
@@ -37,18 +36,19 @@ use Rattle.placement.specs.Options.{means, marksMean, isTable, insetOf, plainOp
 use Rattle.placement.specs.Placing.{moved, placedHexagon, placedPlainHexagon}
 use Rattle.placement.proofs.Plain.{plain-hexagon-placed}
 use Rattle.buffers.specs.Mesh.{Mesh, none, sizeOf, measure}
-use Rattle.face.specs.Lists.{pick, each, chain}
-use Rattle.buffers.proofs.Laid.{laid-nothing, laid-append, LayingTwo, laying-two-more}
-use Rattle.buffers.specs.Laying.{Buffers, two, fits, laid, lay, layAll, layOne, laidIfFits}
+use Rattle.face.specs.Lists.{pick, each}
+use Rattle.buffers.specs.Laying.{Buffers, fits, lay, layAll, layOne, laidIfFits}
 use Rattle.buffers.specs.Faces.{hexagonMesh, plainHexagonMesh}
 use Rattle.buffers.proofs.Windows.{also-none}
 use Rattle.buffers.specs.Windows.{Own}
-use Rattle.buffers.proofs.Faces.{hexagon-size, Written, written, laid-so, FewIndices, hexagon-few}
+use Rattle.buffers.proofs.Faces.{hexagon-size, written, laid-so, FewIndices, hexagon-few}
 use Rattle.buffers.proofs.Joined.{hexagon-own}
 use Rattle.mesh.specs.Jobs.{roomedIn}
 use Rattle.mesh.proofs.Jobs.{whole-room, face-room}
+use Rattle.plane_laying.specs.Moving.{settled, alteredHexagon, alteredPlainHexagon, cornersOf, movedPlane, movedAnswer}
+use Rattle.plane_laying.proofs.Laws.{plain-hexagon-altered}
 use Rattle.plane_builder.specs.declared.Plane.{Plane}
-use Rattle.plane_builder.specs.Plane.{settled, alteredHexagon, alteredPlainHexagon, cornersOf, plainBy, movedPlane, movedAlone, onlyMoved, simple, optionsOf, hexagonBy, planeMesh, planeFaces, shapeOf, placeOf, rangeOf, straight, tableless, unset, entered, checked, planned, wholeAnswer, faceAnswer, built}
+use Rattle.plane_builder.specs.Plane.{plainBy, movedAlone, onlyMoved, simple, optionsOf, hexagonBy, planeMesh, planeFaces, shapeOf, placeOf, rangeOf, straight, tableless, unset, entered, checked, planned, wholeAnswer, faceAnswer, built}
 
 -- ---- one face alone
 pub alone-size : (m : Mesh) → measure (m ∷ []) ≡ sizeOf m
@@ -66,33 +66,7 @@ alone-one m at B k e = rw e
 pub alone-laid : (m : Mesh) (B : Buffers) → fits none (measure (m ∷ [])) B ≡ true → laidIfFits m none B ≡ layAll (m ∷ []) none B
 alone-laid m B e = sym (laid-so m none B (ap (λ (c : Counts). fits none c B) (sym (alone-size m)) ∙ e)) ∙ alone-all m none B
 
--- ---- three pairs, a corner's and the opposite one's, are six in order
-pub pairs-laid : (t : ℕ → Vec2) (u v w x : List Float) → v ≡ laid (laid u 0 (two (t 0))) 6 (two (t 3))
-    → w ≡ laid (laid v 2 (two (t 1))) 8 (two (t 4)) → x ≡ laid (laid w 4 (two (t 2))) 10 (two (t 5)) → x ≡ laid u 0 (chain (λ k. two (t k)) 6)
-pairs-laid t u v w x d e g =
-    let f : ℕ → List Float = λ k. two (t k) in
-    let h : ℕ → List Float = λ k. two (t (k + 3)) in
-    let at-none : LayingTwo f h 3 u 0 6 0 u = (omega arith, refl, sym (laid-nothing _ 6 ∙ laid-nothing _ 0)) in
-    let at-one : LayingTwo f h 3 u 0 6 1 v = laying-two-more f h 2 (λ k. refl) (λ k. refl) 3 u 0 6 0 u (laid u 0 (f 0)) v (omega arith) at-none (omega arith) refl d in
-    let at-two : LayingTwo f h 3 u 0 6 2 w = laying-two-more f h 2 (λ k. refl) (λ k. refl) 3 u 0 6 1 v (laid v 2 (f 1)) w (omega arith) at-one (omega arith) refl e in
-    let all : LayingTwo f h 3 u 0 6 3 x = laying-two-more f h 2 (λ k. refl) (λ k. refl) 3 u 0 6 2 w (laid w 4 (f 2)) x (omega arith) at-two (omega arith) refl g in
-    all .2 ∙ laid-append u 0 _ _
-
-pub pair-same : (u : List Float) (i j : ℕ) (s t : Vec2) (m n : Vec2) → (s ≡ m) × (t ≡ n) → laid (laid u i (two (altered plain s))) j (two (altered plain t)) ≡ laid (laid u i (two (altered plain m))) j (two (altered plain n))
-pair-same u i j s t m n e = ap₂ (λ (x y : Vec2). laid (laid u i (two (altered plain x))) j (two (altered plain y))) (e .0) (e .1)
-
--- ---- six corners by three numbers, one for each and the opposite one, where each number wraps its two
-abbrev Wraps : List Vec2 → Float → ℕ → Type 0
-Wraps cs one k = (halved (times2 (getD cs k off2) one) ≡ wrapped (getD cs k off2)) × (halved (times2 (getD cs (k + 3) off2) one) ≡ wrapped (getD cs (k + 3) off2))
-
-pub six-wrapped : (cs : List Vec2) (a b c : Float) → Wraps cs a 0 → Wraps cs b 1 → Wraps cs c 2
-    → each (λ k. halved (times2 (getD cs k off2) (getD (a ∷ b ∷ c ∷ a ∷ b ∷ c ∷ []) k nan))) 6 ≡ each (λ k. wrapped (getD cs k off2)) 6
-six-wrapped cs a b c p q r = rw (p .0, q .0, r .0, p .1, q .1, r .1)
-
--- ---- without an inset: the uvs of the face by itself, and the plane's mesh
-pub plain-hexagon-altered : (o : UvOptions) (h : Hexagon) → alteredHexagon o (insetHexagonOf None h) ≡ insetHexagonOf None (alteredPlainHexagon o h)
-plain-hexagon-altered o h = rw map-append
-
+-- ---- without an inset, the plane's mesh
 pub plain-mesh : (job : Plane) (l : List Float) (o : FaceOptions) → o .inset ≡ None → plainHexagonMesh (plainBy job l o) ≡ hexagonMesh (o .inset) (hexagonBy job l o)
 plain-mesh job l o e =
     let s = settled (job .placement) (job .position) in
@@ -133,9 +107,17 @@ module _ (job : Plane) (l : List Float) where
       let s = moved-is job l h in
       ap₂ (λ (x : Choice3) (y : Turn). alteredPlainHexagon (o .uv) (placedPlainHexagon (record { scale = x; turn = y; offset = choice.With way }) (hexagonOf (cornersOf l)))) (sym (s .unscaled)) (sym (s .unturned))
 
-  -- where there is room for six vertices and twelve indices, there is for what is written
-  pub moved-room : (B : Buffers) → fits none (insetCounts None 6 4) B ≡ true → Written None 6 hexagonTriangles none (insetCounts None 6 4) B
-  moved-room B f = written None 6 hexagonTriangles none (insetCounts None 6 4) B refl f
+  -- where there is room for six vertices and twelve indices, it is laid
+  moved-room : (B : Buffers) → fits none (insetCounts None 6 4) B ≡ true → Roomy (insetCounts None 6 4) (length (B .vertices)) (length (B .normals)) (length (B .uvs)) (length (B .indices))
+  moved-room B f =
+      let w = written None 6 hexagonTriangles none (insetCounts None 6 4) B refl f in
+      record { vertices = omega (arith, w .vertices); normals = omega (arith, w .normals); uvs = omega (arith, w .uvs); indices = omega (arith, w .indices) }
+
+  pub twelve-answer : onlyMoved job l ≡ true → (B : Buffers) → movedAnswer l B ≡ roomedIn B (Done (insetCounts None 6 4))
+  twelve-answer h B = ap (λ (x : Bool). given x Shape (roomedIn B (Done (insetCounts None 6 4)))) (eq-eqb (length l) 12 (moved-is job l h .twelve))
+
+  pub moved-done : onlyMoved job l ≡ true → (B C : Buffers) (a : Answer) → a ≡ movedAnswer l B → fits none (insetCounts None 6 4) B ≡ true → after a B C ≡ C
+  moved-done h B C a e f = sym (after-done a B C (e ∙ twelve-answer h B ∙ room-enough (insetCounts None 6 4) _ _ _ _ (moved-room B f)))
 
   pub moved-laid : (o : FaceOptions) → onlyMoved job l ≡ true → (B : Buffers) (by : Vec3) → by ≡ way → fits none (insetCounts None 6 4) B ≡ true
       → lay (plainHexagonMesh (movedPlane (o .uv) by l)) none B ≡ laidIfFits (plainHexagonMesh (plainBy job l o)) none B
@@ -159,8 +141,8 @@ module _ (job : Plane) (l ns : List Float) (ms : List ℕ) where
   pub simple-options : simple job l ≡ true → optionsOf job ns ms ≡ plainOptions
   simple-options h = by-default ns ms (job .option) (simple-is job l h .0)
 
-  pub simple-room : simple job l ≡ true → (B : Buffers) → fits none (measure (planeFaces job l ns ms)) B ≡ true → Written None 6 hexagonTriangles none (insetCounts None 6 4) B
-  simple-room h B f = moved-room job l B (unset-fits B (ap (λ (x : FaceOptions). x .inset) (simple-options h)) f)
+  pub simple-fits : simple job l ≡ true → (B : Buffers) → fits none (measure (planeFaces job l ns ms)) B ≡ true → fits none (insetCounts None 6 4) B ≡ true
+  simple-fits h B f = unset-fits B (ap (λ (x : FaceOptions). x .inset) (simple-options h)) f
 
   pub simple-laid : simple job l ≡ true → (B : Buffers) (by : Vec3) → by ≡ way job l → lay (plainHexagonMesh (movedPlane plain by l)) none B ≡ layAll (planeFaces job l ns ms) none B
   simple-laid h B by e =
@@ -177,12 +159,6 @@ module _ (job : Plane) (l ns : List Float) (ms : List ℕ) where
 
   pub range-decides : shapeOf job l ns ms ≡ true → (y : Bool) → rangeOf job l ns ≡ y → given y Range (limited (measure (planeFaces job l ns ms))) ≡ planned job l ns ms
   range-decides e y f = sym (ap₂ (λ (p q : Bool). given p Shape (given q Range (limited (measure (planeFaces job l ns ms))))) e f)
-
--- ---- room for six vertices and twelve indices, as four lengths
-pub six-room : (v n t i : ℕ) (a : Answer) (c : Counts) → a ≡ roomed (Done (insetCounts None 6 4)) v n t i → a ≡ Done c → (18 ≤ v) × (18 ≤ n) × (12 ≤ t) × (12 ≤ i)
-six-room v n t i a c e d =
-    let r = room-for-done (insetCounts None 6 4) v n t i c (sym e ∙ d) .1 in
-    (omega (arith, r .vertices), omega (arith, r .normals), omega (arith, r .uvs), omega (arith, r .indices))
 
 -- ---- a plane whose plan is known
 pub record Known (job : Plane) (l ns : List Float) (ms : List ℕ) : Type 0 where
@@ -216,7 +192,7 @@ module _ (job : Plane) (l ns : List Float) (ms : List ℕ) (g : straight job l �
   straight-parts : (onlyMoved job l ≡ true) × (allInRange l && placeOf job ≡ true)
   straight-parts = both (onlyMoved job l) (allInRange l && placeOf job) g
 
-  pub straight-twelve : length l ≡ 12
+  straight-twelve : length l ≡ 12
   straight-twelve = moved-is job l (straight-parts .0) .twelve
 
   -- where the table is in range, all is

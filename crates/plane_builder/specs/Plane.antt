@@ -1,18 +1,12 @@
 -- A plane, a job of one face (plane_builder.rs); B5 to B22 are rows of docs/TRACE.md. Definitions only.
 use Prim.Native.Nat.{ℕ}
 use mathlib.Core.Bool.{Bool, true, false, _&&_}
-use mathlib.Core.List.{List, [], _∷_, map}
+use mathlib.Core.List.{List, [], _∷_}
 use lib.Dec.{eqb, ltb}
 use lib.ListN.{length, getD}
 use lib.Ieee.{Float}
-use Rattle.face.specs.declared.vec.Vec2.{Vec2}
-use Rattle.face.specs.declared.vec.Vec3.{Vec3}
 use Rattle.face.specs.declared.face.Hexagon.{Hexagon}
 use Rattle.face.specs.declared.inset.InsetHexagon.{InsetHexagon}
-use Rattle.face.specs.declared.uv_mapping.UvOptions.{UvOptions}
-use Rattle.face.specs.Lists.{each}
-use Rattle.face.specs.Vec.{flat}
-use Rattle.face.specs.Texture.{altered}
 use Rattle.face.specs.Face.{hexagonOf}
 use Rattle.face.specs.Inset.{insetHexagonOf}
 use Rattle.answer.specs.declared.answer.Refusal.the-variants.{Shape, Range}
@@ -24,30 +18,14 @@ use Rattle.placement.specs.declared.placement.Choice3.{Choice3}
 use Rattle.placement.specs.declared.placement.Choice3.the-variants as choice
 use Rattle.placement.specs.declared.placement.Turn.{Turn}
 use Rattle.placement.specs.declared.placement.Turn.the-variants as turn
-use Rattle.placement.specs.declared.placement.Placement.{Placement}
 use Rattle.placement.specs.Options.{entryCount, isTable, optionAt}
-use Rattle.placement.specs.Placing.{moved, placedHexagon, placedPlainHexagon, placementInRange}
+use Rattle.placement.specs.Placing.{placedHexagon, placedPlainHexagon, placementInRange}
 use Rattle.buffers.specs.Mesh.{Mesh}
 use Rattle.buffers.specs.Laying.{Buffers}
 use Rattle.buffers.specs.Faces.{hexagonMesh}
-use Rattle.mesh.specs.Stored.{cornerFrom}
 use Rattle.mesh.specs.Jobs.{plannedOf, wholeOf, oneOf, builtOf, facedOf}
+use Rattle.plane_laying.specs.Moving.{settled, alteredHexagon, alteredPlainHexagon, cornersOf}
 use Rattle.plane_builder.specs.declared.Plane.{Plane}
-
--- B7, B19: the position, at height +0, is always added; a supplied offset joins it first
-abbrev pub settled : Placement → Vec2 → Placement
-settled s at = record { scale = s .scale; turn = s .turn; offset = choice.With (moved (s .offset) (flat at)) }
-
--- B5: uvs altered, those of the outer and of the inner points
-abbrev pub alteredHexagon : UvOptions → InsetHexagon → InsetHexagon
-alteredHexagon o h = record { positions = h .positions; normal = h .normal; uvs = map (altered o) (h .uvs) }
-
--- the same of a face without an inset
-abbrev pub alteredPlainHexagon : UvOptions → Hexagon → Hexagon
-alteredPlainHexagon o h = record { positions = h .positions; normal = h .normal; uvs = map (altered o) (h .uvs) }
-
-abbrev pub cornersOf : List Float → List Vec2
-cornersOf l = each (cornerFrom l) 6
 
 -- the hexagon with its inset, placed, and its uvs altered last
 abbrev pub hexagonBy : Plane → List Float → FaceOptions → InsetHexagon
@@ -57,10 +35,6 @@ hexagonBy job l o =
 -- the same of a plane without an inset
 abbrev pub plainBy : Plane → List Float → FaceOptions → Hexagon
 plainBy job l o = alteredPlainHexagon (o .uv) (placedPlainHexagon (settled (job .placement) (job .position)) (hexagonOf (cornersOf l)))
-
--- the same where the plane is moved alone
-abbrev pub movedPlane : UvOptions → Vec3 → List Float → Hexagon
-movedPlane o by l = alteredPlainHexagon o (placedPlainHexagon (record { scale = choice.Absent; turn = turn.Absent; offset = choice.With by }) (hexagonOf (cornersOf l)))
 
 -- neither scaled nor turned
 abbrev pub movedAlone : Choice3 → Turn → Bool

@@ -1,10 +1,9 @@
 -- `put`: straight into the buffers where the plane is simple, and else by the way of its inset. Assumes nothing.
 use borrow.Author.Needs.{needs}
-use native.Mathlib.Omega.{arith}
 use mathlib.Core.Path.{sym, _∙_}
 use denote.Ref.{now}
 use Rattle.buffers.specs.Laying.{four}
-use Rattle.plane_builder.proofs.Laws.{moved-is, simple-is, simple-room, simple-laid}
+use Rattle.plane_builder.proofs.Laws.{simple-is, moved-done, simple-fits, simple-laid}
 use Rattle.plane_builder.proofs.put.Statement.{statement}
 use Rattle.plane_builder.proofs.put.Tie as tie
 
@@ -14,12 +13,7 @@ put-spec =
     (tie.spec
     (λ c κs. search needs)
     (λ c κs. search needs)
-    (λ c κs.
-    let a = c .before .before .before .before .before .before .before .before .before .before .before .before .before .before .before .args in
-    let B = four (now (a .vertices)) (now (a .normals)) (now (a .uvs)) (now (a .indices)) in
-    let h = sym (c .before .before .before .before .before .before .before .is-simple .ensures) ∙ c .before .before .before .before .before .before .if1 .taken in
-    let r = simple-room (a .job) (now (a .corners)) (now (a .numbers)) (now (a .marks)) h B (c .before .before .before .before .before .before .before .before .before .before .before .before .before .before .before .pre) in
-    (moved-is (a .job) (now (a .corners)) (simple-is (a .job) (now (a .corners)) h .1) .twelve, omega (arith, r .vertices), omega (arith, r .normals), omega (arith, r .uvs), omega (arith, r .indices)))
+    (λ c κs. search needs)
     (λ c. search needs)
     (λ c. search needs)
     (λ c. search needs)
@@ -28,7 +22,10 @@ put-spec =
     let a = c .before .before .before .before .before .before .before .before .before .before .before .before .before .before .before .before .before .before .before .before .before .before .before .before .args in
     let B = four (now (a .vertices)) (now (a .normals)) (now (a .uvs)) (now (a .indices)) in
     let h = sym (c .before .before .before .before .before .before .before .before .before .before .before .before .before .before .before .before .is-simple .ensures) ∙ c .before .before .before .before .before .before .before .before .before .before .before .before .before .before .before .if1 .taken in
-    c .before .before .before .before .before .before .before .before .put-moved .ensures ∙ simple-laid (a .job) (now (a .corners)) (now (a .numbers)) (now (a .marks)) h B _ (c .before .before .before .before .before .before .before .before .before .before .before .before .before .join .ensures))
+    let b = c .before .before .before .before .before .before .before .before .build-plain in
+    b .ensures .1
+    ∙ moved-done (a .job) (now (a .corners)) (simple-is (a .job) (now (a .corners)) h .1) B _ (b .result) (b .ensures .0) (simple-fits (a .job) (now (a .corners)) (now (a .numbers)) (now (a .marks)) h B (c .before .before .before .before .before .before .before .before .before .before .before .before .before .before .before .before .before .before .before .before .before .before .before .before .pre))
+    ∙ simple-laid (a .job) (now (a .corners)) (now (a .numbers)) (now (a .marks)) h B _ (c .before .before .before .before .before .before .before .before .before .before .before .before .before .join .ensures))
     (λ c κs. search needs)
     (λ c. search needs)
     (λ c. search needs)

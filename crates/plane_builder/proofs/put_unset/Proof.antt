@@ -1,10 +1,9 @@
 -- `put_unset`: straight into the buffers where the plane is only moved, and else by value. Assumes nothing.
 use borrow.Author.Needs.{needs}
-use native.Mathlib.Omega.{arith}
 use mathlib.Core.Path.{sym, _∙_}
 use denote.Ref.{now}
 use Rattle.buffers.specs.Laying.{four}
-use Rattle.plane_builder.proofs.Laws.{moved-is, moved-room, moved-laid}
+use Rattle.plane_builder.proofs.Laws.{moved-done, moved-laid}
 use Rattle.plane_builder.proofs.put_unset.Statement.{statement}
 use Rattle.plane_builder.proofs.put_unset.Tie as tie
 
@@ -14,11 +13,7 @@ put-unset-spec =
     (tie.spec
     (λ c κs. search needs)
     (λ c κs. search needs)
-    (λ c κs.
-    let a = c .before .before .before .before .before .before .before .before .before .before .before .before .before .before .args in
-    let B = four (now (a .vertices)) (now (a .normals)) (now (a .uvs)) (now (a .indices)) in
-    let r = moved-room (a .job) (now (a .corners)) B (c .before .before .before .before .before .before .before .before .before .before .before .before .before .before .pre) in
-    (moved-is (a .job) (now (a .corners)) (sym (c .before .before .before .before .before .before .before .before .is-moved .ensures) ∙ c .before .before .before .before .before .before .before .if1 .taken) .twelve, omega (arith, r .vertices), omega (arith, r .normals), omega (arith, r .uvs), omega (arith, r .indices)))
+    (λ c κs. search needs)
     (λ c. search needs)
     (λ c. search needs)
     (λ c. search needs)
@@ -26,7 +21,11 @@ put-unset-spec =
     (λ c.
     let a = c .before .before .before .before .before .before .before .before .before .before .before .before .before .before .before .before .before .before .before .before .before .before .before .args in
     let B = four (now (a .vertices)) (now (a .normals)) (now (a .uvs)) (now (a .indices)) in
-    c .before .before .before .before .before .before .before .before .put-mapped .ensures ∙ moved-laid (a .job) (now (a .corners)) (a .o) (sym (c .before .before .before .before .before .before .before .before .before .before .before .before .before .before .before .before .before .is-moved .ensures) ∙ c .before .before .before .before .before .before .before .before .before .before .before .before .before .before .before .before .if1 .taken) B _ (c .before .before .before .before .before .before .before .before .before .before .before .before .before .join .ensures) (c .before .before .before .before .before .before .before .before .before .before .before .before .before .before .before .before .before .before .before .before .before .before .before .pre))
+    let h = sym (c .before .before .before .before .before .before .before .before .before .before .before .before .before .before .before .before .before .is-moved .ensures) ∙ c .before .before .before .before .before .before .before .before .before .before .before .before .before .before .before .before .if1 .taken in
+    let b = c .before .before .before .before .before .before .before .before .build-mapped in
+    b .ensures .1
+    ∙ moved-done (a .job) (now (a .corners)) h B _ (b .result) (b .ensures .0) (c .before .before .before .before .before .before .before .before .before .before .before .before .before .before .before .before .before .before .before .before .before .before .before .pre)
+    ∙ moved-laid (a .job) (now (a .corners)) (a .o) h B _ (c .before .before .before .before .before .before .before .before .before .before .before .before .before .join .ensures) (c .before .before .before .before .before .before .before .before .before .before .before .before .before .before .before .before .before .before .before .before .before .before .before .pre))
     (λ c κs. search needs)
     (λ c. search needs)
     (λ c. search needs)
