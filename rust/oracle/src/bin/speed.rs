@@ -20,11 +20,12 @@ use std::time::Instant;
 /// How many small jobs make a set.
 const SET: usize = 1_000;
 
-/// How often each side is timed; the best counts.
-const READINGS: usize = 15;
+/// How often each side is timed; the best counts. Many short readings, so
+/// that each side has some while nothing else runs on the machine.
+const READINGS: usize = 100;
 
 /// How long a reading of hexx takes at least, in seconds.
-const LEAST: f64 = 0.01;
+const LEAST: f64 = 0.002;
 
 /// What is done to every face of a job.
 #[derive(Clone, Copy)]
