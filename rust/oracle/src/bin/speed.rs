@@ -3,13 +3,14 @@
 
 use glam::{Vec2, vec2};
 use hosirekar::Job as _;
+use hosirekar_sys::{self as sys, CAnswer, CCheapColumn, CColumn, CPlane};
 use oracle::answers::{QuadCase, When, quad};
-use oracle::buffers::{Buffers, Counts};
+use oracle::buffers::{Buffers, Counts, Lent};
 use oracle::builder_cases::ends_of;
 use oracle::builders::{Choice, Column, Plane, Standing};
 use oracle::mesh_cases::Column as CheapColumn;
 use oracle::numbers::within;
-use oracle::ours::{Call, Job};
+use oracle::ours::{Call, Job, Kind};
 use oracle::random::Random;
 use oracle::safe::Safe;
 use oracle::shapes::stretched;
@@ -128,6 +129,104 @@ fn cheap(random: &mut Random) -> CheapColumn {
     }
 }
 
+/// The options of a set, in the two lists that all its jobs are lent.
+struct Table {
+    numbers: Vec<f32>,
+    marks: Vec<u8>,
+}
+
+/// A job whose whole build of ours is called by its own name, as hexx's is. A
+/// `Call` would look each time which kind of job it has.
+trait Ours: Job {
+    /// What goes over, made before the clock starts.
+    type Given;
+    fn given(&self) -> Self::Given;
+    fn build(given: &Self::Given, table: &Table, to: Lent) -> CAnswer;
+}
+
+/// The numbers of six corners, or of six pairs of them, as they go over.
+fn listed<const N: usize>(list: Vec<f32>) -> [f32; N] {
+    list.try_into().expect("a hexagon's numbers")
+}
+
+struct GivenPlane {
+    job: CPlane,
+    corners: [f32; 12],
+}
+
+impl Ours for Plane {
+    type Given = GivenPlane;
+
+    fn given(&self) -> GivenPlane {
+        let call = self.call();
+        let Kind::Plane(job) = call.kind else {
+            unreachable!("a plane is called as one")
+        };
+        GivenPlane {
+            job,
+            corners: listed(call.corners),
+        }
+    }
+
+    fn build(given: &GivenPlane, Table { numbers, marks }: &Table, to: Lent) -> CAnswer {
+        let (v, n, u, i) = (to.vertices, to.normals, to.uvs, to.indices);
+        sys::hosirekar_plane_build(given.job, &given.corners, numbers, marks, v, n, u, i)
+    }
+}
+
+struct GivenColumn {
+    job: CColumn,
+    pairs: [f32; 24],
+    corners: [f32; 12],
+}
+
+impl Ours for Column {
+    type Given = GivenColumn;
+
+    fn given(&self) -> GivenColumn {
+        let call = self.call();
+        let Kind::Column(job) = call.kind else {
+            unreachable!("a column is called as one")
+        };
+        GivenColumn {
+            job,
+            pairs: listed(call.pairs),
+            corners: listed(call.corners),
+        }
+    }
+
+    fn build(given: &GivenColumn, Table { numbers, marks }: &Table, to: Lent) -> CAnswer {
+        let (v, n, u, i) = (to.vertices, to.normals, to.uvs, to.indices);
+        let (pairs, corners) = (&given.pairs, &given.corners);
+        sys::hosirekar_column_build(given.job, pairs, corners, numbers, marks, v, n, u, i)
+    }
+}
+
+struct GivenCheap {
+    job: CCheapColumn,
+    corners: [f32; 12],
+}
+
+impl Ours for CheapColumn {
+    type Given = GivenCheap;
+
+    fn given(&self) -> GivenCheap {
+        let call = self.call();
+        let Kind::Cheap(job) = call.kind else {
+            unreachable!("a cheap column is called as one")
+        };
+        GivenCheap {
+            job,
+            corners: listed(call.corners),
+        }
+    }
+
+    fn build(given: &GivenCheap, _: &Table, to: Lent) -> CAnswer {
+        let (v, n, u, i) = (to.vertices, to.normals, to.uvs, to.indices);
+        sys::hosirekar_cheap_column_build(given.job, &given.corners, v, n, u, i)
+    }
+}
+
 /// The sides of a comparison, each a pass over the set.
 struct Sides<'s> {
     /// Vertices that a pass makes.
@@ -190,12 +289,14 @@ fn copy(from: &Buffers, to: &mut Buffers) {
 }
 
 /// Whole builds of some jobs of the same counts; `hexx` builds the numbered one.
-fn whole<J: Job>(name: &str, way: &str, jobs: &[J], mut hexx: impl FnMut(usize) -> MeshInfo)
+fn whole<J: Ours>(name: &str, way: &str, jobs: &[J], mut hexx: impl FnMut(usize) -> MeshInfo)
 where
     J::Job: hosirekar::Job,
 {
     let counts = Counts::of(&hexx(0));
-    let calls: Vec<Call> = jobs.iter().map(Job::call).collect();
+    let Call { numbers, marks, .. } = jobs[0].call();
+    let table = Table { numbers, marks };
+    let given: Vec<J::Given> = jobs.iter().map(J::given).collect();
     let safe: Vec<J::Job> = jobs.iter().map(Safe::safe).collect();
     let mut lent = Buffers::marked(counts.lengths());
     let from = Buffers::marked(counts.lengths());
@@ -208,8 +309,8 @@ where
             }
         },
         lent: &mut || {
-            for call in &calls {
-                assert_eq!(black_box(call).build(lent.lent()).number, 0);
+            for given in &given {
+                assert_eq!(J::build(black_box(given), &table, lent.lent()).number, 0);
                 black_box(&mut lent);
             }
         },
