@@ -16,7 +16,7 @@ fn held(x: f32) -> f32
     if least < x { x } else { least }
 }
 
-// About the root of x, and right for all but one x in four hundred from 2 ^ -63 to 2 ^ 64: about 1 over
+// About the root of x, and right for all but one x in four hundred from 2 ^ -63 to 2 ^ 65: about 1 over
 // the root by half the exponent and a polynomial, and one step from there whose upper half has an exact
 // square. It sets the speed alone, for it is tested.
 fn guess(x: f32) -> f32 {

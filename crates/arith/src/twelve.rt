@@ -50,8 +50,8 @@ fn pattern(a: f32, b: f32, c: f32) -> u64
     f64::to_bits((a as f64) * (b as f64) + (c as f64))
 }
 
-// Below 2^59 only if the size is from 2^-95 to about 2^33, the sign is plus, and it is no tie: one
-// below nothing wraps too.
+// Below 2^59 only if the number is above zero, from 2^-95 to about 2^33, and no tie: what is below the
+// least wraps to a large number, and so does one below nothing.
 fn fault(bits: u64) -> u64
     ensures { λ r. ⌜ (r < 2 ^ 59 → Middling bits) ⌝ }
 {
@@ -107,7 +107,8 @@ fn one_by_one(a: [f32; 12], b: [f32; 12], c: [f32; 12]) -> [f32; 12]
 }
 
 // a * b + c of each b, rounded once. A product that is exact leaves the one rounding to its sum, and a
-// sum in `f64` tells the `f32` where it is no tie and no zero. All twelve go so, or else one by one.
+// sum in `f64` tells the `f32` where it is above zero, of a middling size and no tie. All twelve go so,
+// or else one by one.
 pub fn fused_by_turns(a0: f32, a1: f32, b: [f32; 12], c0: f32, c1: f32) -> [f32; 12]
     ensures { λ r. ⌜ r ≡ byTurns (λ x. fma a0 x c0) (λ x. fma a1 x c1) b ⌝ }
 {
