@@ -1,9 +1,9 @@
 -- Worked facts of the range and of refusals, by computation. Assumes nothing.
 use mathlib.Core.Path.{_≡_, refl}
 use mathlib.Core.Bool.{Bool, true, false}
-use mathlib.Core.List.{List, [], _∷_, map}
+use mathlib.Core.List.{[], _∷_, map}
 use Prim.Native.Nat.{ℕ}
-use lib.Ieee.{Float, nan, binary32, ofBits, neg, le}
+use lib.Ieee.{nan, binary32, ofBits, neg, le}
 use Rattle.face.specs.Triangles.{counts}
 use Rattle.face.specs.declared.vec.Vec2.{Vec2}
 use Rattle.face.specs.declared.vec.Vec3.{Vec3}

@@ -1,30 +1,22 @@
 -- Each promise is an equation, so it fixes its result: any two that it allows are equal. Assumes nothing.
 use mathlib.Core.Path.{_≡_}
-use mathlib.Core.Bool.{Bool, _&&_}
+use mathlib.Core.Bool.{Bool}
 use mathlib.Core.List.{List}
 use Prim.Native.Nat.{ℕ}
-use lib.Dec.{eqb}
-use lib.ListN.{length}
 use lib.Ieee.{Float}
 pub use Rattle.arith.proofs.Determined.{determined}
 use Rattle.face.specs.declared.triangle.Counts.{Counts}
 use Rattle.face.specs.declared.vec.Vec2.{Vec2}
 use Rattle.face.specs.declared.vec.Vec3.{Vec3}
 use Rattle.answer.specs.declared.answer.Answer.{Answer}
-use Rattle.answer.specs.Answers.{numberOf, countsOf, valueOf2, valueOf3, limited, named, roomed}
-use Rattle.answer.specs.Checks.{inRange, inRange2, inRange3, every, allInRange, exactly, atLeast, namesOption, isNeighbour, cellCount}
+use Rattle.answer.specs.Answers.{numberOf, countsOf, limited, named, roomed}
+use Rattle.answer.specs.Checks.{inRange, inRange2, inRange3, every, allInRange, exactly, namesOption, isNeighbour, cellCount}
 
 pub number-of-determined : (a : Answer) (r s : ℕ) → r ≡ numberOf a → s ≡ numberOf a → r ≡ s
 number-of-determined a r s p q = determined p q
 
 pub counts-of-determined : (a : Answer) (r s : Counts) → r ≡ countsOf a → s ≡ countsOf a → r ≡ s
 counts-of-determined a r s p q = determined p q
-
-pub value-of2-determined : (a : Answer) (v r s : Vec2) → r ≡ valueOf2 a v → s ≡ valueOf2 a v → r ≡ s
-value-of2-determined a v r s p q = determined p q
-
-pub value-of3-determined : (a : Answer) (v r s : Vec3) → r ≡ valueOf3 a v → s ≡ valueOf3 a v → r ≡ s
-value-of3-determined a v r s p q = determined p q
 
 pub limit-determined : (c : Counts) (r s : Answer) → r ≡ limited c → s ≡ limited c → r ≡ s
 limit-determined c r s p q = determined p q
@@ -47,17 +39,8 @@ in-range3-determined v r s p q = determined p q
 pub all-in-range-determined : (xs : List Float) (r s : Bool) → r ≡ allInRange xs → s ≡ allInRange xs → r ≡ s
 all-in-range-determined xs r s p q = determined p q
 
-pub twelve-in-range-determined : (l : List Float) (r s : Bool) → r ≡ eqb (length l) 12 && allInRange l → s ≡ eqb (length l) 12 && allInRange l → r ≡ s
-twelve-in-range-determined l r s p q = determined p q
-
-pub nine-in-range-determined : (l : List Float) (r s : Bool) → r ≡ eqb (length l) 9 && allInRange l → s ≡ eqb (length l) 9 && allInRange l → r ≡ s
-nine-in-range-determined l r s p q = determined p q
-
 pub is-exactly-determined : (l n each : ℕ) (r s : Bool) → r ≡ exactly l n each → s ≡ exactly l n each → r ≡ s
 is-exactly-determined l n each r s p q = determined p q
-
-pub is-at-least-determined : (l n each : ℕ) (r s : Bool) → r ≡ atLeast l n each → s ≡ atLeast l n each → r ≡ s
-is-at-least-determined l n each r s p q = determined p q
 
 pub names-option-determined : (k n : ℕ) (r s : Bool) → r ≡ namesOption k n → s ≡ namesOption k n → r ≡ s
 names-option-determined k n r s p q = determined p q

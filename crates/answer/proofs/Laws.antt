@@ -1,6 +1,6 @@
 -- What callers cite of tests over lists, of lengths and of answers. Assumes nothing.
 use mathlib.Core.Path.{_≡_, refl, sym, ap, _∙_}
-use mathlib.Core.Bool.{Bool, true, false, _&&_, cond}
+use mathlib.Core.Bool.{Bool, true, false, _&&_}
 use mathlib.Core.List.{List, [], _∷_}
 use Prim.Native.Nat.{ℕ, zero, suc, _+_, _*_, _/_, _%_, _≤_, _<_}
 use native.Mathlib.Nat.{le-div-iff-mul-le, div-lt-iff-lt-mul, div-add-mod', mul-comm, add-zero, div-eq-of-eq-mul-left, mul-mod-left}
@@ -19,21 +19,6 @@ use Rattle.answer.specs.declared.answer.Answer.the-variants.{Done, Refus
 use Rattle.answer.specs.Checks.{every}
 use Rattle.answer.specs.Answers.{after, given, limited, named, roomFor, roomed}
 
-eqb-more : (a b : ℕ) → eqb (a + 1) (b + 1) ≡ eqb a b
-eqb-more a b = go (eqb a b) refl
-  where
-    go : (x : Bool) → eqb a b ≡ x → eqb (a + 1) (b + 1) ≡ x
-    go true e = eq-eqb (a + 1) (b + 1) (omega (arith, eqb-true a b e))
-    go false e = ne-eqb (a + 1) (b + 1) (λ q. eqb-false a b e (omega (arith, q)))
-
-&&-true : (a : Bool) → a && true ≡ a
-&&-true true = refl
-&&-true false = refl
-
-&&-false : (a : Bool) → a && false ≡ false
-&&-false true = refl
-&&-false false = refl
-
 -- ---- a test of each element, read one by one: the first i passed, so the rest decide
 module _ {A : Type 0} (ok : A → Bool) (xs : List A) (z : A) where
   abbrev pub Passed : ℕ → Type 0
@@ -47,34 +32,6 @@ module _ {A : Type 0} (ok : A → Bool) (xs : List A) (z : A) where
 
   pub passed-all : (i : ℕ) → Passed i → length xs ≤ i → true ≡ every ok xs
   passed-all i p h = rw (drop-of-length-le xs h) at (p .1)
-
-  -- the same by the number n of those that passed: all did so far where n is i
-  abbrev pub Counted : ℕ → ℕ → Type 0
-  Counted n i = (n ≤ i) × (i ≤ length xs) × (eqb n i && every ok (drop i xs) ≡ every ok xs)
-
-  pub counted-more : (n i m : ℕ) → Counted n i → i < length xs → m ≡ cond (ok (getD xs i z)) (n + 1) n → Counted m (i + 1)
-  counted-more n i m p h e = go (ok (getD xs i z)) refl
-    where
-      rest : (b : Bool) → ok (getD xs i z) ≡ b → eqb n i && (b && every ok (drop (i + 1) xs)) ≡ every ok xs
-      rest b q = rw (add-one i) (rw (drop-cons xs i z h, q) at (p .2))
-
-      go : (b : Bool) → ok (getD xs i z) ≡ b → Counted m (i + 1)
-      go true q =
-          let r : m ≡ n + 1 = e ∙ ap (λ (b : Bool). cond b (n + 1) n) q in
-          (omega (arith, p .0), omega arith, ap (λ (b : Bool). b && every ok (drop (i + 1) xs)) (ap (λ (k : ℕ). eqb k (i + 1)) r ∙ eqb-more n i) ∙ rest true q)
-      go false q =
-          let r : m ≡ n = e ∙ ap (λ (b : Bool). cond b (n + 1) n) q in
-          (omega (arith, p .0), omega arith, rw (ne-eqb m (i + 1) (omega (arith, p .0))) (sym (&&-false (eqb n i)) ∙ rest false q))
-
-  pub counted-all : (n i : ℕ) → Counted n i → length xs ≤ i → eqb n i ≡ every ok xs
-  counted-all n i p h = sym (&&-true (eqb n i)) ∙ (rw (drop-of-length-le xs h) at (p .2))
-
-  -- the last one asked alone
-  pub counted-last : (n i : ℕ) → Counted n i → length xs ≡ i + 1 → eqb n i && ok (getD xs i z) ≡ every ok xs
-  counted-last n i p h =
-      let some : i < length xs = omega (arith, h) in
-      let none : length xs ≤ suc i = omega (arith, h) in
-      rw (drop-cons xs i z some, drop-of-length-le xs none, &&-true (ok (getD xs i z))) at (p .2)
 
 &&-left : (a b : Bool) → a && b ≡ true → a ≡ true
 &&-left true b e = refl
@@ -91,18 +48,18 @@ every-at ok (x ∷ xs) z (suc i) e h = every-at ok xs z i (&&-right (ok x) (ever
 
 -- ---- lengths: so many entries of k numbers each, told by a quotient
 module _ (k a b : ℕ) (p : 0 < k) where
-  pub fits-by : leb a (b / k) ≡ leb (a * k) b
-  fits-by = go (leb a (b / k)) refl
+  quotient-tells : leb a (b / k) ≡ leb (a * k) b
+  quotient-tells = go (leb a (b / k)) refl
     where
       go : (x : Bool) → leb a (b / k) ≡ x → x ≡ leb (a * k) b
       go true e = sym (le-leb (a * k) b (le-div-iff-mul-le p .0 (leb-true a (b / k) e)))
       go false e = sym (lt-leb (a * k) b (div-lt-iff-lt-mul p .0 (leb-false a (b / k) e)))
 
-  pub fits : a ≤ b / k → leb (k * a) b ≡ true
-  fits h = rw mul-comm (sym fits-by ∙ le-leb a (b / k) h)
+  pub roomy : a ≤ b / k → leb (k * a) b ≡ true
+  roomy h = rw mul-comm (sym quotient-tells ∙ le-leb a (b / k) h)
 
   pub short : b / k < a → leb (k * a) b ≡ false
-  short h = rw mul-comm (sym fits-by ∙ lt-leb a (b / k) h)
+  short h = rw mul-comm (sym quotient-tells ∙ lt-leb a (b / k) h)
 
   pub fills-by : b % k ≡ 0 → eqb (b / k) a ≡ eqb b (a * k)
   fills-by z = go (eqb (b / k) a) refl
@@ -113,9 +70,6 @@ module _ (k a b : ℕ) (p : 0 < k) where
 
   pub fills-not : (b % k ≡ 0 → ⊥) → eqb b (a * k) ≡ false
   fills-not z = ne-eqb b (a * k) (λ e. z (rw e (mul-mod-left a k)))
-
-pub fits-none : (a b : ℕ) → leb (a * 0) b ≡ true
-fits-none a b = le-leb (a * 0) b (omega arith)
 
 -- ---- a refused answer is not a done one, and a done one has passed each test before it
 pub not-done : {A : Type 0} {e : Refusal} {c : Counts} → Refused e ≡ Done c → A

@@ -1,14 +1,12 @@
 -- Answers and the order of refusals; N4 to R18 are rows of docs/TRACE.md. Definitions only.
 use Prim.Native.Nat.{ℕ, _*_}
-use mathlib.Core.Bool.{Bool}
+use mathlib.Core.Bool.{Bool, cond}
 use lib.Dec.{leb, ltb}
 use Rattle.face.specs.declared.triangle.Counts.{Counts}
 use Rattle.face.specs.declared.vec.Vec2.{Vec2}
 use Rattle.face.specs.declared.vec.Vec3.{Vec3}
-use Rattle.face.specs.Lists.{pick}
 use Rattle.face.specs.Vec.{zero2, zero3}
 use Rattle.face.specs.Triangles.{counts}
-use Rattle.answer.specs.declared.answer.Buffer.{Buffer}
 use Rattle.answer.specs.declared.answer.Buffer.the-variants.{Vertices, Normals, Uvs, Indices}
 use Rattle.answer.specs.declared.answer.Refusal.{Refusal}
 use Rattle.answer.specs.declared.answer.Refusal.the-variants.{Shape, Range, Neighbour, Limit, Room, NoFace, Index, Empty, Sheet}
@@ -53,7 +51,7 @@ after (Refused e) old new = old
 
 -- a test before an answer
 abbrev pub given : Bool → Refusal → Answer → Answer
-given ok e rest = pick ok rest (Refused e)
+given ok e rest = cond ok rest (Refused e)
 
 -- R4, N4: the vertices can be numbered
 abbrev pub limited : Counts → Answer

@@ -28,12 +28,9 @@ every ok (x ∷ xs) = ok x && every ok xs
 abbrev pub allInRange : List Float → Bool
 allInRange = every inRange
 
--- R1: the length of a job's list, and of a stored one, for so many entries of so many numbers each
+-- R1: the length of a job's list, for so many entries of so many numbers each
 abbrev pub exactly : ℕ → ℕ → ℕ → Bool
 exactly l n each = eqb l (n * each)
-
-abbrev pub atLeast : ℕ → ℕ → ℕ → Bool
-atLeast l n each = leb (n * each) l
 
 -- N8: an entry, or 255 for the default
 abbrev pub namesOption : ℕ → ℕ → Bool

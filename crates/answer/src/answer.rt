@@ -1,12 +1,10 @@
 // Answers and refusals. A refusal's number, its counts and its other values are what the
 // definitions of specs/Answers.antt give for its case.
 ghost use mathlib.Core.Path.{_≡_};
-ghost use Rattle.answer.specs.Answers.{code, numberOf, countsOf, valueOf2, valueOf3, limited, named, roomFor, roomed};
+ghost use Rattle.answer.specs.Answers.{code, numberOf, countsOf, limited, named, roomFor, roomed};
 use face::triangle::Counts;
 use face::triangle::IndexPlace;
 use face::triangle::VertexNumber;
-use face::vec::Vec2;
-use face::vec::Vec3;
 
 // One of the four lent buffers.
 pub enum Buffer {
@@ -68,29 +66,6 @@ pub fn counts_of(answer: Answer) -> Counts
         Answer::Refused(_) => Counts {
             vertices: VertexNumber(0),
             indices: IndexPlace(0),
-        },
-    }
-}
-
-// A value beside an answer: +0 where it is a refusal.
-pub fn value_of2(answer: Answer, value: Vec2) -> Vec2
-    ensures { λ r. ⌜ r ≡ valueOf2 answer value ⌝ }
-{
-    match answer {
-        Answer::Done(_) => value,
-        Answer::Refused(_) => Vec2 { x: 0.0, y: 0.0 },
-    }
-}
-
-pub fn value_of3(answer: Answer, value: Vec3) -> Vec3
-    ensures { λ r. ⌜ r ≡ valueOf3 answer value ⌝ }
-{
-    match answer {
-        Answer::Done(_) => value,
-        Answer::Refused(_) => Vec3 {
-            x: 0.0,
-            y: 0.0,
-            z: 0.0,
         },
     }
 }

@@ -1,10 +1,6 @@
 // The tests of what a job carries. What a number of a list stands for is its caller's to say.
 ghost use mathlib.Core.Path.{_≡_};
-ghost use mathlib.Core.Bool.{cond, _&&_};
-ghost use Prim.Native.Nat.{_+_, _<_};
-ghost use lib.Dec.{eqb};
-ghost use lib.ListN.{length};
-ghost use Rattle.answer.specs.Checks.{inRange, inRange2, inRange3, every, allInRange, exactly, atLeast, namesOption, isNeighbour, cellCount};
+ghost use Rattle.answer.specs.Checks.{inRange, inRange2, inRange3, every, allInRange, exactly, namesOption, isNeighbour, cellCount};
 use face::vec::Vec2;
 use face::vec::Vec3;
 
@@ -52,67 +48,17 @@ pub fn all_in_range(numbers: &[f32]) -> bool
     true
 }
 
-// One more than n if x is in range.
-fn counted(n: u32, x: f32) -> u32
-    requires { ⌜ n < 12 ⌝ }
-    ensures { λ r. ⌜ r ≡ cond (inRange x) (n + 1) n ⌝ }
-{
-    if in_range(x) { n + 1 } else { n }
-}
-
-// Whether there are twelve numbers, six corners, and all are in range. All are looked at, so that the
-// compiler tests four at a time.
-pub fn twelve_in_range(numbers: &[f32]) -> bool
-    ensures { λ r. ⌜ r ≡ eqb (length (now (numbers .entry))) 12 && allInRange (now (numbers .entry)) ⌝ }
-{
-    if numbers.len() != 12 {
-        return false;
-    }
-    let mut n = 0;
-    for k in 0usize..12 {
-        n = counted(n, numbers[k]);
-    }
-    n == 12
-}
-
-// The same of nine, an entry of a table; the ninth is asked alone.
-pub fn nine_in_range(numbers: &[f32]) -> bool
-    ensures { λ r. ⌜ r ≡ eqb (length (now (numbers .entry))) 9 && allInRange (now (numbers .entry)) ⌝ }
-{
-    if numbers.len() != 9 {
-        return false;
-    }
-    let mut n = 0;
-    for k in 0usize..8 {
-        n = counted(n, numbers[k]);
-    }
-    if n == 8 {
-        return in_range(numbers[8]);
-    }
-    false
-}
-
 // Whether a list of a job has its length: so many numbers for each of so many entries.
-pub fn is_exactly(length: usize, entries: usize, each: usize) -> bool
-    ensures { λ r. ⌜ r ≡ exactly length entries each ⌝ }
+pub fn is_exactly(numbers: usize, entries: usize, each: usize) -> bool
+    ensures { λ r. ⌜ r ≡ exactly numbers entries each ⌝ }
 {
     if each == 0 {
-        return length == 0;
+        return numbers == 0;
     }
-    if length % each == 0 {
-        return length / each == entries;
+    if numbers % each == 0 {
+        return numbers / each == entries;
     }
     false
-}
-
-// Whether a stored list reaches as far as its count says; it may be longer.
-pub fn is_at_least(length: usize, entries: usize, each: usize) -> bool
-    ensures { λ r. ⌜ r ≡ atLeast length entries each ⌝ }
-{
-    if each == 0 {
-        return true;
-    }
-    entries <= length / each
 }
 
 // 255 is the default; any other number is that of an entry.

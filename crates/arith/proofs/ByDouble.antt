@@ -14,7 +14,7 @@ use lib.Ieee.Scale.{round-same, finite}
 use Rattle.arith.specs.Pattern.{sigOf, expOf, worth}
 use Rattle.arith.specs.Parts.{Narrows, Exact, narrow}
 use Rattle.arith.specs.Fused.{fma}
-use Rattle.arith.proofs.Values.{sign, held, no-nan, sig-lt, sub-mul, sum-same, fma-at}
+use Rattle.arith.proofs.Values.{sign, held, sig-lt, sub-mul, sum-same, fma-at}
 use Rattle.arith.proofs.Twice.{told-untied, told-exact, told-zero}
 
 pub equals-itself : (x : Float) → eq x x ≡ true → T (not (isNan x))
@@ -26,9 +26,6 @@ equals-itself (fin s m d) e = tt
 -- what an `f64` may be made of
 pub widens : (x : Float) → T (fits binary32 x) → T (not (isNan x)) → T (fits binary64 x && not (isNan x))
 widens x f n = and-i (fits binary64 x) (not (isNan x)) (fits-widens x f) n
-
-pub widens-finite : (x : Float) → T (fits binary32 x) → T (finite x) → T (fits binary64 x && not (isNan x))
-widens-finite x f h = widens x f (no-nan x h)
 
 -- ---- a product and a sum by the fractions that their operands equal
 mul-at : (f : Format) (x y : Float) (s t : Bool) (a b l : ℕ) → 0 < l → HasValue x s a l → HasValue y t b l → mul f x y ≡ round f (unlike s t) (a * b) (l * l)
@@ -45,7 +42,7 @@ mul-at f (fin s' m e) (fin t' n d) s t a b l L p q =
 first-cross : (m a b l x k : ℕ) → m * l ≡ x * a → m * b * (l * k) ≡ x * k * (a * b)
 first-cross m a b l x k h = mul-mul-mul-comm m b l k ∙ ap (λ (v : ℕ). v * (b * k)) h ∙ simp (mul-assoc, mul-comm, mul-left-comm)
 
-pub add-at : (f : Format) (x y : Float) (s t : Bool) (a b l k : ℕ) → 0 < l → 0 < k → HasValue x s a l → HasValue y t b k → add f x y ≡ sum f s (a * k) t (b * l) (l * k)
+add-at : (f : Format) (x y : Float) (s t : Bool) (a b l k : ℕ) → 0 < l → 0 < k → HasValue x s a l → HasValue y t b k → add f x y ≡ sum f s (a * k) t (b * l) (l * k)
 unfolding add
 add-at f nan y s t a b l k L K p q = absurd p
 add-at f (inf v) y s t a b l k L K p q = absurd p
@@ -74,7 +71,7 @@ sum-rounds s t a b c = go (Bool·beq s t) (ltb a b)
     go false false = (s && ltb b a, a - b, λ f. refl, λ d x y p q. (x - y, taken a b d x y p q))
 
 -- ---- two numbers of 24 digits: their product has 48, and an `f64` holds it
-pub product-value : (x y : Float) (s t : Bool) (m i n j : ℕ) → m < 2 ^ 24 → n < 2 ^ 24 → i ≤ 255 → j ≤ 255 → HasValue x s (m * 2 ^ i) (2 ^ 149) → HasValue y t (n * 2 ^ j) (2 ^ 149)
+product-value : (x y : Float) (s t : Bool) (m i n j : ℕ) → m < 2 ^ 24 → n < 2 ^ 24 → i ≤ 255 → j ≤ 255 → HasValue x s (m * 2 ^ i) (2 ^ 149) → HasValue y t (n * 2 ^ j) (2 ^ 149)
     → HasValue (mul binary64 x y) (unlike s t) (m * 2 ^ i * (n * 2 ^ j)) (2 ^ 298)
 product-value x y s t m i n j hm hn hi hj p q =
     let small : m * n < 2 ^ 49 = lt-of-le-of-lt (mul-le-mul (le-of-lt hm) (le-of-lt hn)) (lit< tt) in
@@ -87,11 +84,11 @@ product-value x y s t m i n j hm hn hi hj p q =
     regroup : (a b c d : ℕ) → a * b * (c * d) ≡ a * (b * c) * d
     regroup a b c d = simp (mul-assoc, mul-comm, mul-left-comm)
 
-pub exp-le : (b : ℕ) → expOf (b % 2 ^ 31) ≤ 255
+exp-le : (b : ℕ) → expOf (b % 2 ^ 31) ≤ 255
 exp-le b = omega arith
 
 -- ---- nothing finite comes of what is not
-pub mul-finite : (f : Format) (x y : Float) → T (finite (mul f x y)) → T (finite x) × T (finite y)
+mul-finite : (f : Format) (x y : Float) → T (finite (mul f x y)) → T (finite x) × T (finite y)
 unfolding mul
 mul-finite f nan y h = absurd h
 mul-finite f (inf s) nan h = absurd h
@@ -109,7 +106,7 @@ mul-finite f (fin s m e) (inf t) h = absurd (either (eqb m 0) h)
     either false k = k
 mul-finite f (fin s m e) (fin t n d) h = (tt, tt)
 
-pub add-finite : (f : Format) (x y : Float) → T (finite (add f x y)) → T (finite x) × T (finite y)
+add-finite : (f : Format) (x y : Float) → T (finite (add f x y)) → T (finite x) × T (finite y)
 unfolding add
 add-finite f nan y h = absurd h
 add-finite f (inf s) nan h = absurd h
@@ -163,7 +160,7 @@ placed-at x y z n D j hp ha =
     raised : (h : ℕ) × (n ≡ h * 2 ^ j) → (h : ℕ) × (n * 2 ^ 776 ≡ h * 2 ^ (j + 776))
     raised (h, e) = (h, ap (λ (v : ℕ). v * 2 ^ 776) e ∙ mul-assoc h (2 ^ j) (2 ^ 776) ∙ ap (λ (v : ℕ). h * v) (sym (pow-add 2 j 776)))
 
-pub one-number : (a b c : Float) → T (fits binary32 a) → T (fits binary32 b) → T (fits binary32 c) → T (finite a) → T (finite b) → T (finite c)
+one-number : (a b c : Float) → T (fits binary32 a) → T (fits binary32 b) → T (fits binary32 c) → T (finite a) → T (finite b) → T (finite c)
     → (g : Bool) × (n : ℕ) × (add binary64 (mul binary64 a b) c ≡ round binary64 g n (2 ^ 1074)) × (fma a b c ≡ round binary32 g n (2 ^ 1074)) × Placed (toBits binary32 a) (toBits binary32 b) (toBits binary32 c) n
 one-number a b c fa fb fc ha hb hc =
     let i = toBits binary32 a in

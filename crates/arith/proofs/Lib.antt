@@ -14,6 +14,3 @@ mod WholeRoots
 mod RootCases
 mod Twice
 mod ByDouble
-mod EightRoots
-mod Places
-mod Whole

@@ -13,38 +13,38 @@ use Rattle.arith.proofs.Digits.{pow-lt-back}
 use Rattle.arith.proofs.Rounding.{three, closest-lt, closest-eq, closest-gt}
 
 -- ---- `place`: z zeros above the leading digit, which is that of 2 ^ j
-module _ (sig exp top z j : ℕ) (zj : z + suc j ≡ 64) (lo : 2 ^ j ≤ sig) (hi : sig < 2 ^ suc j) (fit : sig < 2 ^ (64 - top)) (some : top ≤ 63) (big : 63 ≤ exp + top) where
-  j-lt : j < 64 - top
-  j-lt = pow-lt-back j (64 - top) (lt-of-le-of-lt lo fit)
+module _ (sig exp zeros z j : ℕ) (zj : z + suc j ≡ 64) (lo : 2 ^ j ≤ sig) (hi : sig < 2 ^ suc j) (fit : sig < 2 ^ (64 - zeros)) (some : zeros ≤ 63) (big : 63 ≤ exp + zeros) where
+  j-lt : j < 64 - zeros
+  j-lt = pow-lt-back j (64 - zeros) (lt-of-le-of-lt lo fit)
 
-  pub enough : top ≤ z
-  enough = let l : j < 64 - top = j-lt in omega arith
+  pub enough : zeros ≤ z
+  enough = let l : j < 64 - zeros = j-lt in omega arith
 
-  pub spare : z - top ≤ exp
-  spare = let l : j < 64 - top = j-lt in omega arith
+  pub spare : z - zeros ≤ exp
+  spare = let l : j < 64 - zeros = j-lt in omega arith
 
   abbrev n : ℕ
-  n = z - top
+  n = z - zeros
 
-  above : 2 ^ (63 - top) ≤ sig * 2 ^ n
+  above : 2 ^ (63 - zeros) ≤ sig * 2 ^ n
   above =
-      let e : j + n ≡ 63 - top = (let l : j < 64 - top = j-lt in omega arith) in
+      let e : j + n ≡ 63 - zeros = (let l : j < 64 - zeros = j-lt in omega arith) in
       subst (λ (y : ℕ). 2 ^ y ≤ sig * 2 ^ n) e (le-trans (le-of-eq (pow-add 2 j n)) (mul-le-mul-right (2 ^ n) lo))
 
-  below : sig * 2 ^ n < 2 ^ (64 - top)
+  below : sig * 2 ^ n < 2 ^ (64 - zeros)
   below =
-      let e : suc j + n ≡ 64 - top = (let l : j < 64 - top = j-lt in omega arith) in
+      let e : suc j + n ≡ 64 - zeros = (let l : j < 64 - zeros = j-lt in omega arith) in
       subst (λ (y : ℕ). sig * 2 ^ n < 2 ^ y) e (shl-lt (suc j) n hi)
 
   word : (sig * 2 ^ n) % 2 ^ 64 ≡ sig * 2 ^ n
-  word = mod-eq-of-lt (lt-of-lt-of-le below (pow-mono (let g : 64 - top ≤ 64 = omega arith in g)))
+  word = mod-eq-of-lt (lt-of-lt-of-le below (pow-mono (let g : 64 - zeros ≤ 64 = omega arith in g)))
 
-  pub placed : Placed sig exp top ((sig * 2 ^ n) % 2 ^ 64) (exp - n)
+  pub placed : Placed sig exp zeros ((sig * 2 ^ n) % 2 ^ 64) (exp - n)
   placed =
-      let l : z - top ≤ exp = spare in
+      let l : z - zeros ≤ exp = spare in
       let s : n + (exp - n) ≡ exp = omega arith in
       let b : n ≡ exp - (exp - n) = omega arith in
-      subst (λ (m : ℕ). Placed sig exp top m (exp - n)) (sym word) record {
+      subst (λ (m : ℕ). Placed sig exp zeros m (exp - n)) (sym word) record {
         value = mul-assoc sig (2 ^ n) (2 ^ (exp - n)) ∙ ap (λ (y : ℕ). sig * y) (sym (pow-add 2 n (exp - n)) ∙ ap (λ (y : ℕ). 2 ^ y) s);
         moved = ap (λ (y : ℕ). sig * 2 ^ y) b;
         lead = above;

@@ -3,4 +3,3 @@ pub mod Pattern
 pub mod Root
 pub mod Fused
 pub mod Parts
-pub mod Twelve

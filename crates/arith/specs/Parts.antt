@@ -7,14 +7,14 @@ use lib.Ieee.Nearest.{closest}
 use Rattle.arith.specs.Pattern.{sigOf, expOf}
 use Prim.Native.Nat.{ℕ, zero, suc, _+_, _-_, _*_, _/_, _%_, _^_, _≤_, _<_, max}
 
--- sig * 2 ^ exp as m * 2 ^ e, the leading digit moved up to that of 2 ^ (63 - top)
-pub record Placed (sig exp top m e : ℕ) : Type 0 where
+-- sig * 2 ^ exp as m * 2 ^ e, the leading digit moved up to that of 2 ^ (63 - zeros)
+pub record Placed (sig exp zeros m e : ℕ) : Type 0 where
   pub value : m * 2 ^ e ≡ sig * 2 ^ exp
   pub moved : m ≡ sig * 2 ^ (exp - e)
-  pub lead : 2 ^ (63 - top) ≤ m
-  pub small : m < 2 ^ (64 - top)
+  pub lead : 2 ^ (63 - zeros) ≤ m
+  pub small : m < 2 ^ (64 - zeros)
   pub high : e ≤ exp
-  pub low : exp + top ≤ e + 63
+  pub low : exp + zeros ≤ e + 63
 
 -- a pattern's magnitude in units of 2 ^ -275, with 24 digits
 pub record Digits (bits m e : ℕ) : Type 0 where

@@ -1,9 +1,8 @@
 -- The square root of a binary32 number, over whole numbers (IEEE 754-2019, 5.4.1). Definitions only.
 use Prim.Native.Nat.{ℕ, zero, suc, _+_, _-_, _*_, _/_, _^_, _≤_, _<_}
-use mathlib.Core.Bool.{Bool, true, false, _&&_, cond}
-use mathlib.Core.List.{List, [], _∷_}
+use mathlib.Core.Bool.{Bool, true, false, cond}
 use lib.Dec.{leb}
-use lib.Ieee.{Float, nan, inf, fin, binary32, up, down, round, ofBits, le}
+use lib.Ieee.{Float, nan, inf, fin, binary32, up, down, round}
 use Rattle.arith.specs.Digit.{flag}
 
 -- r, or r + 1 where the square of r + 1 is no more than n
@@ -31,22 +30,6 @@ root (inf true) = nan
 root (fin s zero e) = fin s zero e
 root (fin true (suc m) e) = nan
 root (fin false (suc m) e) = rootOf (suc m * up e * 2 ^ 298 / down e)
-
--- 2 ^ -32 and 2 ^ 33, by their patterns
-abbrev pub leastMiddling : Float
-leastMiddling = ofBits binary32 0x2f80_0000
-
-abbrev pub mostMiddling : Float
-mostMiddling = ofBits binary32 0x5000_0000
-
--- a number of a middling size: from 2 ^ -32 to 2 ^ 33
-abbrev pub middling : Float → Bool
-middling r = le leastMiddling r && le r mostMiddling
-
--- each of them is
-abbrev pub areMiddling : List Float → Bool
-areMiddling [] = true
-areMiddling (r ∷ rs) = middling r && areMiddling rs
 
 -- The number of p units is no farther from the root of n than that of q units with the sign t, said without a root:
 -- the root lies on p's side of the middle between the two, (p - q) / 2 or (p + q) / 2, or on the middle itself. Where q is more than p, p - q is 0 here,

@@ -1,13 +1,10 @@
 // The arithmetic that all else stands on: the square root and the fused multiply-add of `f32`, each
-// equal to its definition over whole numbers for every input, of one number or of several at once. An
-// `f32` is rounded by integers on bit patterns, or by the machine where that is one rounding of the
-// exact number; a guess in floats is tested by whole numbers.
+// equal to its definition over whole numbers for every input. An `f32` is rounded by integers on bit
+// patterns, or by the machine where that is one rounding of the exact number.
 mod double;
-pub mod eight;
 mod multiply_add;
 mod pattern;
 mod square_root;
-pub mod twelve;
 
 ghost use mathlib.Core.Path.{_≡_};
 ghost use Rattle.arith.specs.Root.{root};

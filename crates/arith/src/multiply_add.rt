@@ -137,7 +137,8 @@ fn size_of_sum(s: bool, a: u64, t: bool, b: u64) -> u64
 // x and y with their signs, each jammed to the greater exponent, added.
 fn combine(s: bool, x: Scaled, t: bool, y: Scaled) -> Signed
     requires { ⌜ Ready (x .sig) (x .exp) × Ready (y .sig) (y .exp) ⌝ }
-    ensures { λ r. ⌜ Summed (r .sig) (r .exp) × (sum binary32 s (x .sig * 2 ^ x .exp) t (y .sig * 2 ^ y .exp) (2 ^ 426) ≡ round binary32 (r .neg) (r .sig * 2 ^ r .exp) (2 ^ 426)) ⌝ }
+    ensures size { λ r. ⌜ Summed (r .sig) (r .exp) ⌝ }
+    ensures value { λ r. ⌜ sum binary32 s (x .sig * 2 ^ x .exp) t (y .sig * 2 ^ y .exp) (2 ^ 426) ≡ round binary32 (r .neg) (r .sig * 2 ^ r .exp) (2 ^ 426) ⌝ }
 {
     let exp = greater(x.exp, y.exp);
     let a = jammed(x.sig, exp - x.exp);

@@ -19,8 +19,8 @@ pub(crate) struct Scaled {
 pub(crate) fn is_finite(x: f32) -> bool
     ensures { λ r. ⌜ r ≡ finite x ⌝ }
 {
-    let top = f32::from_bits(0x7f80_0000);
-    if x < top { -top < x } else { false }
+    let infinity = f32::from_bits(0x7f80_0000);
+    if x < infinity { -infinity < x } else { false }
 }
 
 pub(crate) fn wide(x: u32) -> u64
@@ -61,12 +61,12 @@ pub(crate) fn exponent(mag: u32) -> u32
     if field == 0 { 0 } else { field - 1 }
 }
 
-// The same number with its leading digit moved up to that of 2 ^ (63 - top).
-pub(crate) fn place(sig: u64, exp: u32, top: u32) -> Scaled
-    requires { ⌜ (0 < sig) × (sig < 2 ^ (64 - top)) × (top ≤ 63) × (63 ≤ exp + top) × (exp ≤ 1000) ⌝ }
-    ensures { λ r. ⌜ Placed sig exp top (r .sig) (r .exp) ⌝ }
+// The same number with its leading digit moved up to that of 2 ^ (63 - zeros).
+pub(crate) fn place(sig: u64, exp: u32, zeros: u32) -> Scaled
+    requires { ⌜ (0 < sig) × (sig < 2 ^ (64 - zeros)) × (zeros ≤ 63) × (63 ≤ exp + zeros) × (exp ≤ 1000) ⌝ }
+    ensures { λ r. ⌜ Placed sig exp zeros (r .sig) (r .exp) ⌝ }
 {
-    let n = u64::leading_zeros(sig) - top;
+    let n = u64::leading_zeros(sig) - zeros;
     Scaled {
         sig: sig << n,
         exp: exp - n,

@@ -1,6 +1,6 @@
 -- What holds of an inset for every number of points V, used at four and at six alike. Assumes nothing.
 use mathlib.Core.Path.{_≡_, refl, sym, ap, _∙_, subst}
-use mathlib.Core.Bool.{Bool, true, false}
+use mathlib.Core.Bool.{Bool, true, false, cond}
 use mathlib.Core.List.{List, [], _∷_, _++_, map}
 use Prim.Native.Nat.{ℕ, zero, suc, _+_, _-_, _*_, _/_, _%_, _≤_, _<_}
 use native.Mathlib.Nat.{mod-lt}
@@ -15,9 +15,9 @@ use Rattle.face.specs.declared.vec.Vec3.{Vec3}
 use Rattle.face.specs.declared.inset.Inset.{Inset}
 use Rattle.face.specs.declared.inset.Inset.the-variants.{None, Centroid, SmallestEdge}
 use Rattle.face.specs.declared.triangle.Triangle.{Triangle}
-use Rattle.face.specs.Lists.{pick, chain}
+use Rattle.face.specs.Lists.{chain}
 use Rattle.face.specs.Vec.{f0}
-use Rattle.face.specs.Inset.{after, innerPoints, innerUvs}
+use Rattle.face.specs.Inset.{nextOf, innerPoints, innerUvs}
 use Rattle.face.specs.Triangles.{noTriangle, firstOf, secondOf, reversedIf, connecting, shifted, kept, ringed, insetTriangles, insetCounts, quadTriangles, hexagonTriangles}
 use Rattle.face.proofs.Filling.{length-each}
 use Rattle.face.proofs.Ring.{length-pairs, first-at, second-at, ring-low, ring-high}
@@ -57,11 +57,11 @@ vertex-count (Centroid k keep) ps t = twice-as-many (Centroid k keep) ps
 vertex-count (SmallestEdge k keep) ps t = twice-as-many (SmallestEdge k keep) ps
 
 -- ---- 6V indices, plus 3 for each inner triangle when kept
-kept-length : (keep : Bool) (m : ℕ) (ts : List Triangle) → length (kept keep m ts) ≡ pick keep (length ts) 0
+kept-length : (keep : Bool) (m : ℕ) (ts : List Triangle) → length (kept keep m ts) ≡ cond keep (length ts) 0
 kept-length true m ts = length-map ts _
 kept-length false m ts = refl
 
-ringed-length : (k : Float) (keep : Bool) (m : ℕ) (ts : List Triangle) → 3 * length (ringed k keep m ts) ≡ 6 * m + 3 * pick keep (length ts) 0
+ringed-length : (k : Float) (keep : Bool) (m : ℕ) (ts : List Triangle) → 3 * length (ringed k keep m ts) ≡ 6 * m + 3 * cond keep (length ts) 0
 ringed-length k keep m ts =
     let c : length (chain (connecting (lt k f0) m) m) ≡ 2 * m = length-pairs _ _ noTriangle m in
     let a : length (ringed k keep m ts) ≡ length (chain (connecting (lt k f0) m) m) + length (kept keep m ts) = length-append (chain (connecting (lt k f0) m) m) (kept keep m ts) in
@@ -113,14 +113,14 @@ reversed-below true n t h = (h .2, h .1, h .0)
 reversed-below false n t h = h
 
 module _ (m v : ℕ) (h : v < m) where
-  next-lt : after m v < m
+  next-lt : nextOf m v < m
   next-lt = mod-lt (v + 1) {m = m} (omega arith)
 
   first-below : Below (2 * m) (firstOf m v)
-  first-below = let n : after m v < m = next-lt in (omega arith, omega arith, omega arith)
+  first-below = let n : nextOf m v < m = next-lt in (omega arith, omega arith, omega arith)
 
   second-below : Below (2 * m) (secondOf m v)
-  second-below = let n : after m v < m = next-lt in (omega arith, omega arith, omega arith)
+  second-below = let n : nextOf m v < m = next-lt in (omega arith, omega arith, omega arith)
 
 -- a triangle of the ring: one of a point's two, or an inner one
 ring-below : (k : Float) (keep : Bool) (m : ℕ) (ts : List Triangle) → ((i : ℕ) → i < length ts → Below m (getD ts i noTriangle)) → 0 < m → (i : ℕ) → Below (2 * m) (getD (ringed k keep m ts) i noTriangle)

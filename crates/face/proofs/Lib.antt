@@ -3,5 +3,4 @@ pub mod Laws
 pub mod Bench
 pub mod Filling
 mod Ring
-mod Turns
 pub mod Wraps

@@ -1,4 +1,5 @@
 -- Insets, over a face of any number of points; I1 to I5 are rows of docs/TRACE.md. Definitions only.
+use mathlib.Core.Bool.{cond}
 use Prim.Native.Nat.{ℕ, _+_, _-_, _%_}
 use mathlib.Core.List.{List, _++_, map}
 use lib.ListN.{length, getD}
@@ -11,7 +12,7 @@ use Rattle.face.specs.declared.inset.InsetQuad.{InsetQuad}
 use Rattle.face.specs.declared.inset.InsetHexagon.{InsetHexagon}
 use Rattle.face.specs.declared.face.Quad.{Quad}
 use Rattle.face.specs.declared.face.Hexagon.{Hexagon}
-use Rattle.face.specs.Lists.{pick, each}
+use Rattle.face.specs.Lists.{each}
 use Rattle.face.specs.Vec.{times, over, plus2, minus2, times2, plus3, minus3, times3, off2, off3, length3, unit3, middle2, middle3}
 
 -- ---- I2: toward the middle of the points, and uvs toward the middle of the uvs
@@ -32,45 +33,46 @@ shrunk2 k ps = map (toward2 (middle2 ps) k) ps
 
 -- the shorter of two lengths, as the crate's `min` has it by run: where one is a NaN, the other
 abbrev pub shorter : Float → Float → Float
-shorter a b = pick (lt b a) b (pick (ne a a) b a)
+shorter a b = cond (lt b a) b (cond (ne a a) b a)
 
--- how far a point moves: the directions to its neighbours are dp and dn
-abbrev pub reach : Float → Vec3 → Vec3 → Float
-reach k dp dn = times (shorter (length3 dp) (length3 dn)) k
+-- how far a point moves whose edges are lp long to the previous one, and ln to the next
+abbrev pub reach : Float → Float → Float → Float
+reach k lp ln = times (shorter lp ln) k
 
--- dist along the direction of d
-abbrev pub along : Vec3 → Float → Vec3
-along d dist = times3 (unit3 d) dist
+-- dist along the direction of d, which is l long
+abbrev pub along : Vec3 → Float → Float → Vec3
+along d l dist = times3 (unit3 d l) dist
 
 -- I3: to the next neighbour first, which the bits show
-abbrev pub edgePoint : Float → Vec3 → Vec3 → Vec3 → Vec3
-edgePoint k p prev next =
-    let dp = minus3 prev p in
-    let dn = minus3 next p in
-    let dist = reach k dp dn in
-    plus3 (plus3 p (along dn dist)) (along dp dist)
+abbrev pub edgePoint : Float → Float → Float → Vec3 → Vec3 → Vec3 → Vec3
+edgePoint k lp ln p prev next =
+    let dist = reach k lp ln in
+    plus3 (plus3 p (along (minus3 next p) ln dist)) (along (minus3 prev p) lp dist)
 
 -- I4: on each of the two edges, the share of it that the point has gone
-abbrev pub edgeUv : Float → Vec3 → Vec3 → Vec3 → Vec2 → Vec2 → Vec2 → Vec2
-edgeUv k p prev next t tprev tnext =
-    let dp = minus3 prev p in
-    let dn = minus3 next p in
-    let dist = reach k dp dn in
-    plus2 (plus2 t (times2 (minus2 tnext t) (over dist (length3 dn)))) (times2 (minus2 tprev t) (over dist (length3 dp)))
+abbrev pub edgeUv : Float → Float → Float → Vec2 → Vec2 → Vec2 → Vec2
+edgeUv k lp ln t tprev tnext =
+    let dist = reach k lp ln in
+    plus2 (plus2 t (times2 (minus2 tnext t) (over dist ln))) (times2 (minus2 tprev t) (over dist lp))
 
 -- the neighbours of v among m in a ring
-abbrev pub before : ℕ → ℕ → ℕ
-before m v = (v + (m - 1)) % m
+abbrev pub previousOf : ℕ → ℕ → ℕ
+previousOf m v = (v + (m - 1)) % m
 
-abbrev pub after : ℕ → ℕ → ℕ
-after m v = (v + 1) % m
+abbrev pub nextOf : ℕ → ℕ → ℕ
+nextOf m v = (v + 1) % m
+
+-- how long the edge from v to w is, and so what each point and each uv becomes
+abbrev pub edge : List Vec3 → ℕ → ℕ → Float
+edge ps v w = length3 (minus3 (getD ps w off3) (getD ps v off3))
 
 abbrev pub pointAt : Float → List Vec3 → ℕ → ℕ → Vec3
-pointAt k ps m v = edgePoint k (getD ps v off3) (getD ps (before m v) off3) (getD ps (after m v) off3)
+pointAt k ps m v =
+    edgePoint k (edge ps v (previousOf m v)) (edge ps v (nextOf m v)) (getD ps v off3) (getD ps (previousOf m v) off3) (getD ps (nextOf m v) off3)
 
 abbrev pub uvAt : Float → List Vec3 → List Vec2 → ℕ → ℕ → Vec2
 uvAt k ps ts m v =
-    edgeUv k (getD ps v off3) (getD ps (before m v) off3) (getD ps (after m v) off3) (getD ts v off2) (getD ts (before m v) off2) (getD ts (after m v) off2)
+    edgeUv k (edge ps v (previousOf m v)) (edge ps v (nextOf m v)) (getD ts v off2) (getD ts (previousOf m v) off2) (getD ts (nextOf m v) off2)
 
 abbrev pub edged3 : Float → List Vec3 → List Vec3
 edged3 k ps = each (pointAt k ps (length ps)) (length ps)

@@ -1,11 +1,6 @@
--- Choices and counting lists. Definitions only.
+-- Counting lists. Definitions only.
 use Prim.Native.Nat.{ℕ, zero, suc}
-use mathlib.Core.Bool.{Bool, true, false}
 use mathlib.Core.List.{List, [], _∷_, _++_}
-
-abbrev pub pick : {A : Type 0} → Bool → A → A → A
-pick true a b = a
-pick false a b = b
 
 -- g 0, .. g (n - 1): one more comes at the end, as in a loop
 abbrev pub each : {A : Type 0} → (ℕ → A) → ℕ → List A

@@ -1,12 +1,10 @@
 -- Texture options (uv_mapping.rs); T1 to T4 are rows of docs/TRACE.md. Definitions only.
-use mathlib.Core.Bool.{Bool, false}
-use mathlib.Core.List.{List, [], _∷_}
+use mathlib.Core.Bool.{Bool, false, cond}
 use lib.Ieee.{Float}
 use Rattle.arith.specs.Fused.{fma}
 use Rattle.face.specs.declared.vec.Vec2.{Vec2}
 use Rattle.face.specs.declared.uv_mapping.UvOptions.{UvOptions}
-use Rattle.face.specs.Lists.{pick}
-use Rattle.face.specs.Vec.{v2, f0, f1, f2, half, plus, minus, times, over, times2, length2, alike, reciprocal, serves}
+use Rattle.face.specs.Vec.{v2, f0, f1, f2, half, plus, diff, times, over, times2, length2, reciprocal, serves}
 
 -- what a fresh option does: scale 1, offset 0, the whole rectangle, no flip
 abbrev pub plain : UvOptions
@@ -14,26 +12,16 @@ plain = record { scale = v2 f1 f1; offset = v2 f0 f0; min = v2 f0 f0; max = v2 f
 
 -- T1 to T3: one component mirrored, scaled and moved, a rounding each, and laid into the rectangle in one
 abbrev pub component : Bool → Float → Float → Float → Float → Float → Float
-component flip scale offset min max u = fma (minus max min) (plus (times (pick flip (minus f1 u) u) scale) offset) min
+component flip scale offset min max u = fma (diff max min) (plus (times (cond flip (diff f1 u) u) scale) offset) min
 
 abbrev pub altered : UvOptions → Vec2 → Vec2
 altered o t =
     v2 (component (o .flip .u) (o .scale .x) (o .offset .x) (o .min .x) (o .max .x) (t .x))
     (component (o .flip .v) (o .scale .y) (o .offset .y) (o .min .y) (o .max .y) (t .y))
 
--- the components of points one after the other, and the points of such a list
-abbrev pub spread : List Vec2 → List Float
-spread [] = []
-spread (t ∷ ts) = t .x ∷ t .y ∷ spread ts
-
-abbrev pub paired : List Float → List Vec2
-paired [] = []
-paired (x ∷ []) = []
-paired (x ∷ y ∷ l) = v2 x y ∷ paired l
-
 -- the direction of p by its reciprocal length k, or p itself where k does not serve
 abbrev pub unitOr : Vec2 → Float → Vec2
-unitOr p k = pick (serves k) (times2 p k) p
+unitOr p k = cond (serves k) (times2 p k) p
 
 -- halved, about the middle of the texture
 abbrev pub halved : Vec2 → Vec2
@@ -42,11 +30,3 @@ halved q = v2 (plus (over (q .x) f2) half) (plus (over (q .y) f2) half)
 -- T4: the direction of a corner, or the corner where it has none, about the middle
 abbrev pub wrapped : Vec2 → Vec2
 wrapped p = halved (unitOr p (reciprocal (length2 p)))
-
--- the one reciprocal length of two points that are alike; else +0, which does not serve
-abbrev pub oneOfBoth : Vec2 → Vec2 → Float
-oneOfBoth p q = pick (alike p q) (reciprocal (length2 p)) f0
-
--- the same of q and r: that of p, which is k, where all three are alike, their own where they are, and else +0
-abbrev pub oneOfThree : Vec2 → Float → Vec2 → Vec2 → Float
-oneOfThree p k q r = pick (alike q r) (pick (alike q p) k (reciprocal (length2 q))) f0

@@ -1,6 +1,6 @@
 -- The triangles of a face of any number of points, and its counts; F3 to I9 are rows of docs/TRACE.md. Definitions only.
 use Prim.Native.Nat.{ℕ, _+_, _*_}
-use mathlib.Core.Bool.{Bool, true, false}
+use mathlib.Core.Bool.{Bool, true, false, cond}
 use mathlib.Core.List.{List, [], _∷_, _++_, map}
 use lib.Ieee.{Float, lt}
 use Rattle.face.specs.declared.inset.Inset.{Inset}
@@ -9,9 +9,9 @@ use Rattle.face.specs.declared.triangle.VertexNumber.{VertexNumber}
 use Rattle.face.specs.declared.triangle.IndexPlace.{IndexPlace}
 use Rattle.face.specs.declared.triangle.Triangle.{Triangle}
 use Rattle.face.specs.declared.triangle.Counts.{Counts}
-use Rattle.face.specs.Lists.{pick, chain}
+use Rattle.face.specs.Lists.{chain}
 use Rattle.face.specs.Vec.{f0}
-use Rattle.face.specs.Inset.{after}
+use Rattle.face.specs.Inset.{nextOf}
 
 abbrev pub vertex : ℕ → VertexNumber
 vertex n = record { 0 = n }
@@ -38,14 +38,14 @@ abbrev pub reversed : Triangle → Triangle
 reversed t = record { 0 = t .2; 1 = t .1; 2 = t .0 }
 
 abbrev pub reversedIf : Bool → Triangle → Triangle
-reversedIf back t = pick back (reversed t) t
+reversedIf back t = cond back (reversed t) t
 
 -- I6: the two triangles between the outer edge from v to its next and the inner edge of the same points
 abbrev pub firstOf : ℕ → ℕ → Triangle
-firstOf m v = tri (after m v + m) (after m v) v
+firstOf m v = tri (nextOf m v + m) (nextOf m v) v
 
 abbrev pub secondOf : ℕ → ℕ → Triangle
-secondOf m v = tri v (v + m) (after m v + m)
+secondOf m v = tri v (v + m) (nextOf m v + m)
 
 abbrev pub connecting : Bool → ℕ → ℕ → List Triangle
 connecting back m v = reversedIf back (firstOf m v) ∷ reversedIf back (secondOf m v) ∷ []
@@ -73,7 +73,7 @@ counts v i = record { vertices = vertex v; indices = place i }
 
 -- I5, I9: m points with an inset, whose face has t triangles of its own
 abbrev pub ringCounts : Bool → ℕ → ℕ → Counts
-ringCounts keep m t = counts (2 * m) (6 * m + 3 * pick keep t 0)
+ringCounts keep m t = counts (2 * m) (6 * m + 3 * cond keep t 0)
 
 abbrev pub insetCounts : Inset → ℕ → ℕ → Counts
 insetCounts None m t = counts m (3 * t)

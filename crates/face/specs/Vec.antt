@@ -3,8 +3,7 @@ use mathlib.Core.List.{List, foldl}
 use mathlib.Core.Bool.{Bool, _&&_}
 use lib.ListN.{length}
 use lib.IntN.{pos}
-use lib.Dec.{eqb}
-use lib.Ieee.{Float, nan, binary32, add, sub, mul, div, lt, le, eq, ofBits, toBits, ofInt}
+use lib.Ieee.{Float, nan, binary32, add, sub, mul, div, lt, ofBits, ofInt}
 use Rattle.arith.specs.Root.{root}
 use Rattle.face.specs.declared.vec.Vec2.{Vec2}
 use Rattle.face.specs.declared.vec.Vec3.{Vec3}
@@ -15,7 +14,7 @@ v2 x y = record { x = x; y = y }
 abbrev pub v3 : Float → Float → Float → Vec3
 v3 x y z = record { x = x; y = y; z = z }
 
--- +0, 1, 2, one half, +infinity and 2 ^ 32, by their patterns
+-- +0, 1, 2, one half and +infinity, by their patterns
 abbrev pub f0 : Float
 f0 = ofBits binary32 0
 
@@ -28,18 +27,15 @@ f2 = ofBits binary32 0x4000_0000
 abbrev pub half : Float
 half = ofBits binary32 0x3f00_0000
 
-abbrev pub top : Float
-top = ofBits binary32 0x7f80_0000
-
-abbrev pub large : Float
-large = ofBits binary32 0x4f80_0000
+abbrev pub infinity : Float
+infinity = ofBits binary32 0x7f80_0000
 
 -- the four steps
 abbrev pub plus : Float → Float → Float
 plus = add binary32
 
-abbrev pub minus : Float → Float → Float
-minus = sub binary32
+abbrev pub diff : Float → Float → Float
+diff = sub binary32
 
 abbrev pub times : Float → Float → Float
 times = mul binary32
@@ -51,7 +47,7 @@ abbrev pub plus2 : Vec2 → Vec2 → Vec2
 plus2 a b = v2 (plus (a .x) (b .x)) (plus (a .y) (b .y))
 
 abbrev pub minus2 : Vec2 → Vec2 → Vec2
-minus2 a b = v2 (minus (a .x) (b .x)) (minus (a .y) (b .y))
+minus2 a b = v2 (diff (a .x) (b .x)) (diff (a .y) (b .y))
 
 abbrev pub times2 : Vec2 → Float → Vec2
 times2 a k = v2 (times (a .x) k) (times (a .y) k)
@@ -63,7 +59,7 @@ abbrev pub plus3 : Vec3 → Vec3 → Vec3
 plus3 a b = v3 (plus (a .x) (b .x)) (plus (a .y) (b .y)) (plus (a .z) (b .z))
 
 abbrev pub minus3 : Vec3 → Vec3 → Vec3
-minus3 a b = v3 (minus (a .x) (b .x)) (minus (a .y) (b .y)) (minus (a .z) (b .z))
+minus3 a b = v3 (diff (a .x) (b .x)) (diff (a .y) (b .y)) (diff (a .z) (b .z))
 
 abbrev pub times3 : Vec3 → Float → Vec3
 times3 a k = v3 (times (a .x) k) (times (a .y) k) (times (a .z) k)
@@ -108,31 +104,19 @@ length2 a = root (square2 a)
 abbrev pub length3 : Vec3 → Float
 length3 a = root (square3 a)
 
--- two numbers of one pattern, and no NaN
-abbrev pub same : Float → Float → Bool
-same a b = eq a b && eqb (toBits binary32 a) (toBits binary32 b)
-
--- two points whose squares are the same
-abbrev pub alike : Vec2 → Vec2 → Bool
-alike a b = same (square2 a) (square2 b)
-
 -- the reciprocal of a length, and when it serves: finite and above 0
 abbrev pub reciprocal : Float → Float
 reciprocal l = over f1 l
 
 abbrev pub serves : Float → Bool
-serves k = lt f0 k && lt k top
+serves k = lt f0 k && lt k infinity
 
--- above 0 and at most 2 ^ 32, so that it serves; speed alone hangs on this test
-abbrev pub ordinary : Float → Bool
-ordinary k = lt f0 k && le k large
-
--- normalised: each component by the reciprocal of the length
+-- normalised: each component by the reciprocal of the length, which in space is at hand
 abbrev pub unit2 : Vec2 → Vec2
 unit2 a = times2 a (reciprocal (length2 a))
 
-abbrev pub unit3 : Vec3 → Vec3
-unit3 a = times3 a (reciprocal (length3 a))
+abbrev pub unit3 : Vec3 → Float → Vec3
+unit3 a l = times3 a (reciprocal l)
 
 -- the centroid: points summed one by one onto +0, and the sum divided by how many they are
 abbrev pub middle : {A : Type 0} → (A → A → A) → A → (A → Float → A) → List A → A

@@ -1,8 +1,8 @@
 // Quads and hexagons, after face.rs of hexx. A face has one normal for all its points.
 ghost use mathlib.Core.Path.{_≡_};
 ghost use mathlib.Core.List.{map};
-ghost use Rattle.face.specs.Vec.{upright, flat};
-ghost use Rattle.face.specs.Face.{quadWith, quadOf, level, boundedQuadOf, hexagonOf};
+ghost use Rattle.face.specs.Vec.{upright};
+ghost use Rattle.face.specs.Face.{quadWith, quadOf, reached, boundedQuadOf, hexagonOf};
 use crate::vec::Vec2;
 use crate::vec::Vec3;
 
@@ -18,7 +18,8 @@ pub struct Hexagon {
     pub uvs: [Vec2; 6],
 }
 
-fn raise(p: Vec2, y: f32) -> Vec3
+// A point of the plane at a height.
+pub fn raise(p: Vec2, y: f32) -> Vec3
     ensures { λ r. ⌜ r ≡ upright p y ⌝ }
 {
     Vec3 {
@@ -60,8 +61,8 @@ pub fn new_quad(left: Vec2, right: Vec2, bottom: f32, top: f32) -> Quad
     quad_with(left, right, bottom, top, 0.0, 1.0)
 }
 
-fn level_of(min: f32, max: f32, height: f32) -> f32
-    ensures { λ r. ⌜ r ≡ level min max height ⌝ }
+fn share_reached(min: f32, max: f32, height: f32) -> f32
+    ensures { λ r. ⌜ r ≡ reached min max height ⌝ }
 {
     (height - min) / (max - min)
 }
@@ -75,13 +76,13 @@ pub fn new_bounded_quad(left: Vec2, right: Vec2, bottom: f32, top: f32, min: f32
         right,
         bottom,
         top,
-        level_of(min, max, bottom),
-        level_of(min, max, top),
+        share_reached(min, max, bottom),
+        share_reached(min, max, top),
     )
 }
 
-fn raise_six(cs: [Vec2; 6]) -> [Vec3; 6]
-    ensures { λ r. ⌜ r ≡ map flat cs ⌝ }
+pub fn raise_six(cs: [Vec2; 6], y: f32) -> [Vec3; 6]
+    ensures { λ r. ⌜ r ≡ map (λ p. upright p y) cs ⌝ }
 {
     let mut out = [Vec3 {
         x: 0.0,
@@ -89,7 +90,7 @@ fn raise_six(cs: [Vec2; 6]) -> [Vec3; 6]
         z: 0.0,
     }; 6];
     for i in 0usize..6 {
-        out[i] = raise(cs[i], 0.0);
+        out[i] = raise(cs[i], y);
     }
     out
 }
@@ -98,7 +99,7 @@ fn raise_six(cs: [Vec2; 6]) -> [Vec3; 6]
 pub fn new_hexagon(corners: [Vec2; 6]) -> Hexagon
     ensures { λ r. ⌜ r ≡ hexagonOf corners ⌝ }
 {
-    let positions = raise_six(corners);
+    let positions = raise_six(corners, 0.0);
     let uvs = crate::uv_mapping::wrap_six(corners);
     Hexagon {
         positions: positions,

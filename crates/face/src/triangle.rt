@@ -85,7 +85,7 @@ fn connection(back: bool, m: usize, t: usize) -> Triangle
     reverse_if(back, numbered(v, v + m, n + m))
 }
 
-// The connecting triangles, then the inner ones if they are kept, which turn at no scale.
+// The connecting triangles, then the inner ones if they are kept. These turn at no scale, as the constant says.
 fn ring_of_quad(k: f32, keep: bool, t: usize) -> Triangle
     ensures { λ r. ⌜ r ≡ getD (ringed k keep 4 quadTriangles) t noTriangle ⌝ }
 {

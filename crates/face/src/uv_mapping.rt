@@ -2,12 +2,9 @@
 ghost use mathlib.Core.Path.{_≡_};
 ghost use mathlib.Core.List.{map};
 ghost use Rattle.arith.specs.Fused.{fma};
-ghost use Rattle.arith.specs.Twelve.{turn, byTurns};
-ghost use lib.ListN.{getD};
-ghost use lib.Ieee.{nan};
-ghost use Rattle.face.specs.Lists.{pick, each};
-ghost use Rattle.face.specs.Vec.{f1, plus, minus, times, length2, reciprocal, same};
-ghost use Rattle.face.specs.Texture.{plain, component, altered, spread, paired, unitOr, halved, wrapped, oneOfBoth, oneOfThree};
+ghost use Rattle.face.specs.Vec.{length2, reciprocal};
+ghost use Rattle.face.specs.Texture.{plain, component, altered, unitOr, halved, wrapped};
+ghost use Rattle.face.specs.Speed.{same, oneOfBoth};
 use crate::vec::Vec2;
 
 pub struct Flip {
@@ -69,16 +66,6 @@ pub fn alter_uv(o: UvOptions, uv: Vec2) -> Vec2
     }
 }
 
-// The same of the default options.
-pub fn alter_plain_uv(uv: Vec2) -> Vec2
-    ensures { λ r. ⌜ r ≡ altered plain uv ⌝ }
-{
-    Vec2 {
-        x: uv.x * 1.0 + 0.0 + 0.0,
-        y: uv.y * 1.0 + 0.0 + 0.0,
-    }
-}
-
 pub fn alter_four(o: UvOptions, uvs: [Vec2; 4]) -> [Vec2; 4]
     ensures { λ r. ⌜ r ≡ map (altered o) uvs ⌝ }
 {
@@ -89,114 +76,11 @@ pub fn alter_four(o: UvOptions, uvs: [Vec2; 4]) -> [Vec2; 4]
     out
 }
 
-// The components of six one after the other, so that what is done to one is done to all at once.
-fn flat_of(u: [Vec2; 6]) -> [f32; 12]
-    ensures { λ r. ⌜ r ≡ spread u ⌝ }
-{
-    [
-        u[0].x,
-        u[0].y,
-        u[1].x,
-        u[1].y,
-        u[2].x,
-        u[2].y,
-        u[3].x,
-        u[3].y,
-        u[4].x,
-        u[4].y,
-        u[5].x,
-        u[5].y,
-    ]
-}
-
-fn pairs_of(u: [f32; 12]) -> [Vec2; 6]
-    ensures { λ r. ⌜ r ≡ paired u ⌝ }
-{
-    let mut out = [Vec2 { x: 0.0, y: 0.0 }; 6];
-    for i in 0usize..6 {
-        out[i] = Vec2 {
-            x: u[2 * i],
-            y: u[2 * i + 1],
-        };
-    }
-    out
-}
-
-fn by_turns(x: f32, y: f32) -> [f32; 12]
-    ensures { λ r. ⌜ r ≡ each (turn x y) 12 ⌝ }
-{
-    [x, y, x, y, x, y, x, y, x, y, x, y]
-}
-
-fn mirrored(us: [f32; 12]) -> [f32; 12]
-    ensures { λ r. ⌜ r ≡ map (minus f1) us ⌝ }
-{
-    let mut out = us;
-    for i in 0usize..12 {
-        out[i] = 1.0 - us[i];
-    }
-    out
-}
-
-fn mixed(us: [f32; 12], vs: [f32; 12]) -> [f32; 12]
-    ensures { λ r. ⌜ r ≡ each (λ k. turn (getD us k nan) (getD vs k nan) k) 12 ⌝ }
-{
-    [
-        us[0],
-        vs[1],
-        us[2],
-        vs[3],
-        us[4],
-        vs[5],
-        us[6],
-        vs[7],
-        us[8],
-        vs[9],
-        us[10],
-        vs[11],
-    ]
-}
-
-fn turned(flip: Flip, us: [f32; 12]) -> [f32; 12]
-    ensures { λ r. ⌜ r ≡ byTurns (λ x. pick (flip .u) (minus f1 x) x) (λ x. pick (flip .v) (minus f1 x) x) us ⌝ }
-{
-    if flip.u {
-        if flip.v {
-            return mirrored(us);
-        }
-        return mixed(mirrored(us), us);
-    }
-    if flip.v {
-        return mixed(us, mirrored(us));
-    }
-    us
-}
-
-fn moved(scale: Vec2, offset: Vec2, us: [f32; 12]) -> [f32; 12]
-    ensures { λ r. ⌜ r ≡ byTurns (λ x. plus (times x (scale .x)) (offset .x)) (λ x. plus (times x (scale .y)) (offset .y)) us ⌝ }
-{
-    let s = by_turns(scale.x, scale.y);
-    let t = by_turns(offset.x, offset.y);
-    let mut out = us;
-    for i in 0usize..12 {
-        out[i] = us[i] * s[i] + t[i];
-    }
-    out
-}
-
 pub fn alter_six(o: UvOptions, uvs: [Vec2; 6]) -> [Vec2; 6]
     ensures { λ r. ⌜ r ≡ map (altered o) uvs ⌝ }
 {
-    let us = moved(o.scale, o.offset, turned(o.flip, flat_of(uvs)));
-    let w = crate::vec::sub2(o.max, o.min);
-    pairs_of(arith::twelve::fused_by_turns(w.x, w.y, us, o.min.x, o.min.y))
-}
-
-pub fn alter_eight(o: UvOptions, uvs: [Vec2; 8]) -> [Vec2; 8]
-    ensures { λ r. ⌜ r ≡ map (altered o) uvs ⌝ }
-{
     let mut out = uvs;
-    for i in 0usize..8 {
+    for i in 0usize..6 {
         out[i] = alter_uv(o, uvs[i]);
     }
     out
@@ -239,7 +123,7 @@ fn are_same(a: f32, b: f32) -> bool
 
 // The reciprocal length of two corners, where their squares are the same, as those of opposite ones
 // about the origin are; else 0, which gives no direction.
-pub fn one_of_both(p: Vec2, q: Vec2) -> f32
+fn one_of_both(p: Vec2, q: Vec2) -> f32
     ensures { λ r. ⌜ r ≡ oneOfBoth p q ⌝ }
 {
     let a = crate::vec::squared2(p);
@@ -249,22 +133,8 @@ pub fn one_of_both(p: Vec2, q: Vec2) -> f32
     0.0
 }
 
-// The same of q and r where that of p is k: a root is spared where p is as far from the origin too.
-pub fn one_of_three(p: Vec2, k: f32, q: Vec2, r: Vec2) -> f32
-    ensures { λ s. ⌜ s ≡ oneOfThree p k q r ⌝ }
-{
-    let a = crate::vec::squared2(q);
-    if are_same(a, crate::vec::squared2(r)) {
-        if are_same(a, crate::vec::squared2(p)) {
-            return k;
-        }
-        return crate::vec::one_over(arith::root(a));
-    }
-    0.0
-}
-
 // From about the origin to about the middle of the texture.
-pub fn halve(q: Vec2) -> Vec2
+fn halve(q: Vec2) -> Vec2
     ensures { λ r. ⌜ r ≡ halved q ⌝ }
 {
     Vec2 {

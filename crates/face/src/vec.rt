@@ -1,7 +1,8 @@
 // Points of the plane and of space, by value. A point of the plane has x and y; on the panel its y
 // is the z of space.
 ghost use mathlib.Core.Path.{_≡_};
-ghost use Rattle.face.specs.Vec.{plus2, minus2, times2, plus3, minus3, times3, square2, square3, length2, length3, reciprocal, serves, ordinary, unit2, unit3, middle2, middle3};
+ghost use Rattle.face.specs.Vec.{plus2, minus2, times2, plus3, minus3, times3, square2, square3, length2, length3, reciprocal, serves, unit2, unit3, middle2, middle3};
+ghost use Rattle.face.specs.Speed.{ordinary};
 
 pub struct Vec2 {
     pub x: f32,
@@ -96,14 +97,14 @@ pub fn len3(a: Vec3) -> f32
 }
 
 // One over a length: what every normalising multiplies by.
-pub fn one_over(length: f32) -> f32
-    ensures { λ r. ⌜ r ≡ reciprocal length ⌝ }
+pub fn one_over(span: f32) -> f32
+    ensures { λ r. ⌜ r ≡ reciprocal span ⌝ }
 {
-    1.0 / length
+    1.0 / span
 }
 
 // Whether a reciprocal length gives a direction: finite and above 0.
-pub fn is_usable(k: f32) -> bool
+pub(crate) fn is_usable(k: f32) -> bool
     ensures { λ r. ⌜ r ≡ serves k ⌝ }
 {
     if 0.0 < k {
@@ -114,7 +115,7 @@ pub fn is_usable(k: f32) -> bool
 
 // A quicker test that is enough: what is above 0 and at most 2 ^ 32 gives a direction. Only points
 // nearer to the origin than 2 ^ -32 have a greater one.
-pub fn is_ordinary(k: f32) -> bool
+pub(crate) fn is_ordinary(k: f32) -> bool
     ensures { λ r. ⌜ r ≡ ordinary k ⌝ }
 {
     if 0.0 < k {
@@ -129,10 +130,11 @@ pub fn normalize2(a: Vec2) -> Vec2
     scale2(a, one_over(len2(a)))
 }
 
-pub fn normalize3(a: Vec3) -> Vec3
-    ensures { λ r. ⌜ r ≡ unit3 a ⌝ }
+// The same of a point whose length is at hand.
+pub fn normalize3(a: Vec3, span: f32) -> Vec3
+    ensures { λ r. ⌜ r ≡ unit3 a span ⌝ }
 {
-    scale3(a, one_over(len3(a)))
+    scale3(a, one_over(span))
 }
 
 // The centroids: the sum from +0 in order, over the count.

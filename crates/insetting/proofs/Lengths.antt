@@ -11,10 +11,10 @@ use lib.Ieee.{Float, nan, inf, fin, binary32, low, emax, up, down, size, nearest
 use Rattle.arith.specs.Root.{root}
 use Rattle.face.specs.declared.vec.Vec2.{Vec2}
 use Rattle.face.specs.declared.vec.Vec3.{Vec3}
-use Rattle.face.specs.Vec.{plus, minus, times, minus3, off2, off3, length3}
+use Rattle.face.specs.Vec.{plus, diff, times, minus3, off2, off3, length3}
 use Rattle.face.specs.Lists.{each}
-use Rattle.face.specs.Inset.{before, after, pointAt, uvAt, edged3, edged2}
-use Rattle.insetting.specs.Edges.{edgeAt, edges, pointBy, uvBy, pointByAt, uvByAt, pointsBy, uvsBy}
+use Rattle.face.specs.Inset.{edgePoint, edgeUv, previousOf, nextOf, edge, pointAt, uvAt, edged3, edged2}
+use Rattle.insetting.specs.Edges.{edgeAt, edges, pointByAt, uvByAt, pointsBy, uvsBy}
 use Rattle.face.proofs.Filling.{length-each, each-at, each-same}
 
 -- ---- a value without its sign, which its square does not see
@@ -90,17 +90,17 @@ sub-turned (fin s m e) (fin t n d) =
     sum-turned s t (m * up e * down d) (n * up d * down e) (down e * down d)
     ∙ ap (λ (c : ℕ). unsigned (sum binary32 t (n * up d * down e) (not s) (m * up e * down d) c)) (mul-comm (down e) (down d))
 
-square-turned : (x y : Float) → times (minus x y) (minus x y) ≡ times (minus y x) (minus y x)
+square-turned : (x y : Float) → times (diff x y) (diff x y) ≡ times (diff y x) (diff y x)
 square-turned x y =
-    square-unsigned (minus x y) ∙ ap (λ (z : Float). times z z) (sub-turned x y) ∙ sym (square-unsigned (minus y x))
+    square-unsigned (diff x y) ∙ ap (λ (z : Float). times z z) (sub-turned x y) ∙ sym (square-unsigned (diff y x))
 
 pub length-turned : (a b : Vec3) → length3 (minus3 a b) ≡ length3 (minus3 b a)
 length-turned a b =
     ap root (ap₂ plus (ap₂ plus (square-turned (a .x) (b .x)) (square-turned (a .y) (b .y))) (square-turned (a .z) (b .z)))
 
 -- ---- the lengths of all edges, looked up at a point: the edge to its next, and the one to its previous
-after-before : (m v : ℕ) → v < m → after m (before m v) ≡ v
-after-before m v h =
+next-of-previous : (m v : ℕ) → v < m → nextOf m (previousOf m v) ≡ v
+next-of-previous m v h =
     mod-add-mod (v + (m - 1)) m 1
     ∙ ap (λ (x : ℕ). x % m) (let e : v + (m - 1) + 1 ≡ v + m = omega arith in e)
     ∙ add-mod-right v m
@@ -110,21 +110,21 @@ module _ (k : Float) (ps : List Vec3) (v : ℕ) (h : v < length ps) where
   abbrev m : ℕ
   m = length ps
 
-  to-next : getD (edges ps) v nan ≡ length3 (minus3 (getD ps (after m v) off3) (getD ps v off3))
+  to-next : getD (edges ps) v nan ≡ edge ps v (nextOf m v)
   to-next = each-at (edgeAt ps m) m v nan h
 
-  to-previous : getD (edges ps) (before m v) nan ≡ length3 (minus3 (getD ps (before m v) off3) (getD ps v off3))
+  to-previous : getD (edges ps) (previousOf m v) nan ≡ edge ps v (previousOf m v)
   to-previous =
-      each-at (edgeAt ps m) m (before m v) nan (mod-lt (v + (m - 1)) {m = m} (omega arith))
-      ∙ ap (λ (x : ℕ). length3 (minus3 (getD ps x off3) (getD ps (before m v) off3))) (after-before m v h)
-      ∙ length-turned (getD ps v off3) (getD ps (before m v) off3)
+      each-at (edgeAt ps m) m (previousOf m v) nan (mod-lt (v + (m - 1)) {m = m} (omega arith))
+      ∙ ap (edge ps (previousOf m v)) (next-of-previous m v h)
+      ∙ length-turned (getD ps v off3) (getD ps (previousOf m v) off3)
 
   point-by : pointAt k ps m v ≡ pointByAt k (edges ps) ps m v
   point-by =
-      sym (ap₂ (λ (lp ln : Float). pointBy k lp ln (getD ps v off3) (getD ps (before m v) off3) (getD ps (after m v) off3)) to-previous to-next)
+      sym (ap₂ (λ (lp ln : Float). edgePoint k lp ln (getD ps v off3) (getD ps (previousOf m v) off3) (getD ps (nextOf m v) off3)) to-previous to-next)
 
   uv-by : (ts : List Vec2) → uvAt k ps ts m v ≡ uvByAt k (edges ps) ts m v
-  uv-by ts = sym (ap₂ (λ (lp ln : Float). uvBy k lp ln (getD ts v off2) (getD ts (before m v) off2) (getD ts (after m v) off2)) to-previous to-next)
+  uv-by ts = sym (ap₂ (λ (lp ln : Float). edgeUv k lp ln (getD ts v off2) (getD ts (previousOf m v) off2) (getD ts (nextOf m v) off2)) to-previous to-next)
 
 as-many : (ps : List Vec3) → length ps ≡ length (edges ps)
 as-many ps = sym (length-each (edgeAt ps (length ps)) (length ps))

@@ -1,9 +1,9 @@
 // The insets of quads and hexagons, after face.rs of hexx: the inner points.
 ghost use mathlib.Core.Path.{_≡_};
 ghost use mathlib.Core.List.{_++_};
-ghost use Rattle.face.specs.Vec.{minus3, times3, length3, reciprocal};
-ghost use Rattle.face.specs.Inset.{toward3, toward2, shrunk3, shrunk2, shorter, insetQuadOf, insetHexagonOf};
-ghost use Rattle.insetting.specs.Edges.{edges, pointBy, uvBy, pointsBy, uvsBy, quadAround, hexagonAround};
+ghost use Rattle.face.specs.Vec.{minus3, length3};
+ghost use Rattle.face.specs.Inset.{toward3, toward2, shrunk3, shrunk2, shorter, along, edgePoint, edgeUv, insetQuadOf, insetHexagonOf};
+ghost use Rattle.insetting.specs.Edges.{edges, pointsBy, uvsBy, quadAround, hexagonAround};
 use face::face::Hexagon;
 use face::face::Quad;
 use face::inset::Inset;
@@ -81,15 +81,15 @@ fn shorter_of(a: f32, b: f32) -> f32
     a
 }
 
-fn step_along(d: Vec3, length: f32, dist: f32) -> Vec3
-    ensures { λ r. ⌜ r ≡ times3 (times3 d (reciprocal length)) dist ⌝ }
+fn step_along(d: Vec3, span: f32, dist: f32) -> Vec3
+    ensures { λ r. ⌜ r ≡ along d span dist ⌝ }
 {
-    face::vec::scale3(face::vec::scale3(d, face::vec::one_over(length)), dist)
+    face::vec::scale3(face::vec::normalize3(d, span), dist)
 }
 
 // By the shorter of its two edges, times the scale; lp and ln are how long the edges are.
 fn edge_point(k: f32, lp: f32, ln: f32, p: Vec3, prev: Vec3, next: Vec3) -> Vec3
-    ensures { λ r. ⌜ r ≡ pointBy k lp ln p prev next ⌝ }
+    ensures { λ r. ⌜ r ≡ edgePoint k lp ln p prev next ⌝ }
 {
     let dp = face::vec::sub3(prev, p);
     let dn = face::vec::sub3(next, p);
@@ -99,7 +99,7 @@ fn edge_point(k: f32, lp: f32, ln: f32, p: Vec3, prev: Vec3, next: Vec3) -> Vec3
 }
 
 fn edge_uv(k: f32, lp: f32, ln: f32, t: Vec2, tprev: Vec2, tnext: Vec2) -> Vec2
-    ensures { λ r. ⌜ r ≡ uvBy k lp ln t tprev tnext ⌝ }
+    ensures { λ r. ⌜ r ≡ edgeUv k lp ln t tprev tnext ⌝ }
 {
     let dist = shorter_of(lp, ln) * k;
     let forward = face::vec::add2(t, face::vec::scale2(face::vec::sub2(tnext, t), dist / ln));

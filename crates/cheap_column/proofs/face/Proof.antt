@@ -1,12 +1,13 @@
 -- `face`: the plan, then the number, then the room, then the one face. Assumes nothing.
 use borrow.Author.Needs.{needs}
-use mathlib.Core.Path.{sym, _∙_}
+use mathlib.Core.Path.{_≡_, sym, ap, _∙_, subst}
 use denote.Ref.{now}
-use Rattle.answer.proofs.Laws.{after-done, after-refused}
+use Rattle.answer.specs.declared.answer.Answer.{Answer}
+use Rattle.answer.specs.Answers.{after}
 use Rattle.buffers.specs.Mesh.{none}
 use Rattle.buffers.specs.Laying.{four, layOne}
-use Rattle.cheap_column.specs.CheapColumn.{cheapFaces, faceAnswer}
-use Rattle.cheap_column.proofs.Cheap.{face-ready, face-laid, column-laid}
+use Rattle.cheap_column.specs.CheapColumn.{cheapFaces, faceAnswer, Ready}
+use Rattle.cheap_column.proofs.Cheap.{face-ready, face-laid}
 use Rattle.cheap_column.proofs.face.Statement.{statement}
 use Rattle.cheap_column.proofs.face.Tie as tie
 
@@ -17,44 +18,19 @@ face-spec =
     (λ c κs. search needs)
     (λ c κs. search needs)
     (λ c κs. search needs)
-    (λ c. search needs)
-    (λ c. search needs)
     (λ c κs.
-    let a = c .before .before .before .before .before .before .before .before .before .before .before .before .before .args in
+    let a = c .before .before .before .before .before .before .before .before .before .before .before .before .args in
     let l = now (a .corners) in
     let B = four (now (a .vertices)) (now (a .normals)) (now (a .uvs)) (now (a .indices)) in
-    let e = sym (rw (c .before .before .before .before .before .before .name .ensures, c .before .before .before .before .before .before .before .plan .ensures) at (c .before .before .before .before .before .room .ensures)) ∙ c .before .before .before .answer2 .given .1 in
-    let r = face-ready (a .job) l B (a .number) _ e in
-    (r .twelve, r .vertices, r .normals))
-    (λ c κs.
-    let a = c .before .before .before .before .before .before .before .before .before .before .before .before .before .before .before .before .before .before .args in
-    let l = now (a .corners) in
-    let B = four (now (a .vertices)) (now (a .normals)) (now (a .uvs)) (now (a .indices)) in
-    let e = sym (rw (c .before .before .before .before .before .before .before .before .before .before .before .name .ensures, c .before .before .before .before .before .before .before .before .before .before .before .before .plan .ensures) at (c .before .before .before .before .before .before .before .before .before .before .room .ensures)) ∙ c .before .before .before .before .before .before .before .before .answer2 .given .1 in
-    let r = face-ready (a .job) l B (a .number) _ e in
-    r .twelve)
-    (λ c κs.
+    let e : c .before .before .before .before .room .result ≡ faceAnswer (a .job) l (a .number) B = rw (c .before .before .before .before .before .name .ensures, c .before .before .before .before .before .before .plan .ensures) at (c .before .before .before .before .room .ensures) in
+    subst (λ (x : Answer). Ready x l B) (sym e) (face-ready (a .job) l B (a .number)))
+    (λ c. search needs)
+    (λ c. search needs)
+    (λ c. search needs)
+    (λ c. search needs)
+    (λ c.
     let a = c .before .before .before .before .before .before .before .before .before .before .before .before .before .before .before .before .before .before .before .before .before .args in
     let l = now (a .corners) in
     let B = four (now (a .vertices)) (now (a .normals)) (now (a .uvs)) (now (a .indices)) in
-    let e = sym (rw (c .before .before .before .before .before .before .before .before .before .before .before .before .before .before .name .ensures, c .before .before .before .before .before .before .before .before .before .before .before .before .before .before .before .plan .ensures) at (c .before .before .before .before .before .before .before .before .before .before .before .before .before .room .ensures)) ∙ c .before .before .before .before .before .before .before .before .before .before .before .answer2 .given .1 in
-    let r = face-ready (a .job) l B (a .number) _ e in
-    (r .twelve, r .uvs, r .indices, c .before .before .ones .ensures))
-    (λ c.
-    let a = c .before .before .before .before .before .before .before .before .before .before .before .args in
-    let l = now (a .corners) in
-    let B = four (now (a .vertices)) (now (a .normals)) (now (a .uvs)) (now (a .indices)) in
-    let e = sym (rw (c .before .before .before .before .name .ensures, c .before .before .before .before .before .plan .ensures) at (c .before .before .before .room .ensures)) ∙ c .before .answer .given .1 in
-    (sym e, after-refused (faceAnswer (a .job) l (a .number) B) B (layOne (cheapFaces (a .job) l) (a .number) none B) e))
-    (λ c. search needs)
-    (λ c. search needs)
-    (λ c. search needs)
-    (λ c. search needs)
-    (λ c.
-    let a = c .before .before .before .before .before .before .before .before .before .before .before .before .before .before .before .before .before .before .before .before .before .before .before .before .before .before .args in
-    let l = now (a .corners) in
-    let B = four (now (a .vertices)) (now (a .normals)) (now (a .uvs)) (now (a .indices)) in
-    let e = sym (rw (c .before .before .before .before .before .before .before .before .before .before .before .before .before .before .before .before .before .before .before .name .ensures, c .before .before .before .before .before .before .before .before .before .before .before .before .before .before .before .before .before .before .before .before .plan .ensures) at (c .before .before .before .before .before .before .before .before .before .before .before .before .before .before .before .before .before .before .room .ensures)) ∙ c .before .before .before .before .before .before .before .before .before .before .before .before .before .before .before .before .answer2 .given .1 in
-    let p = c .before .before .before .before .before .before .before .before .before .before .before .before .put-rings .ensures in
-    let q = c .before .before .before .before .put-rest .ensures in
-    (sym e, column-laid (a .job) l B (p .0) (p .1) (q .0) (q .1) ∙ face-laid (a .job) l B (a .number) _ e ∙ after-done (faceAnswer (a .job) l (a .number) B) B (layOne (cheapFaces (a .job) l) (a .number) none B) e)))
+    let e : c .before .before .before .before .before .before .before .before .before .before .before .before .before .room .result ≡ faceAnswer (a .job) l (a .number) B = rw (c .before .before .before .before .before .before .before .before .before .before .before .before .before .before .name .ensures, c .before .before .before .before .before .before .before .before .before .before .before .before .before .before .before .plan .ensures) at (c .before .before .before .before .before .before .before .before .before .before .before .before .before .room .ensures) in
+    (e, c .before .before .before .before .before .before .before .before .put-if-done .ensures ∙ face-laid (a .job) l B (a .number) _ e ∙ ap (λ (x : Answer). after x B (layOne (cheapFaces (a .job) l) (a .number) none B)) e)))

@@ -3,10 +3,10 @@ use borrow.Author.Needs.{needs}
 use Prim.Native.Nat.{_-_}
 use native.Mathlib.Omega.{arith}
 use mathlib.Core.Path.{_≡_, refl, sym}
-use lib.ListN.{length, getD}
+use lib.ListN.{length, getD, length-set}
 use Rattle.face.specs.Vec.{off2}
 use Rattle.buffers.specs.Laying.{two}
-use Rattle.buffers.proofs.Laid.{laid-nothing, Laying, laying-more}
+use Rattle.buffers.proofs.Laid.{laid-nothing, laid-two, Laying, laying-more}
 use Rattle.cheap_column.proofs.Cheap.{laying-all}
 use Rattle.cheap_column.proofs.put_row.Statement.{statement}
 use Rattle.cheap_column.proofs.put_row.Tie as tie
@@ -28,12 +28,16 @@ put-row-spec =
     (λ c. search needs)
     (λ c. search needs)
     (λ c. search needs)
-    (λ c κs. search needs)
     (λ c. search needs)
     (λ c. search needs)
-    (λ c. laying-more _ 2 (λ k. refl) _ _ _ _ _ _ (c .before .before .before .before .before .before .loop .inv) (c .before .before .before .before .before .loop-test .taken) (c .before .before .put2 .ensures))
+    (λ c. search needs)
+    (λ c. search needs)
+    (λ c. simp length-set (omega arith))
+    (λ c. search needs)
+    (λ c. search needs)
+    (λ c. laying-more _ 2 (λ k. refl) _ _ _ _ _ _ (c .before .before .loop .inv) (c .before .loop-test .taken) (laid-two _ _ _ _))
     (λ c. search needs)
     (λ c.
-    let a = c .before .before .before .args in
+    let a = c .before .before .args in
     let l : length (a .t2) ≡ 6 = search needs in
     laying-all two (a .t2) off2 6 _ _ _ _ (c .before .loop .inv) (c .loop-test .left) l))

@@ -9,9 +9,4 @@ step-along-spec =
     (tie.spec
     (λ c κs. search needs)
     (λ c κs. search needs)
-    (λ c κs. search needs)
-    (λ c. rw (
-      c .scale32 .ensures,
-      c .before .scale3 .ensures,
-      c .before .before .one-over .ensures,
-    )))
+    (λ c. rw (c .scale3 .ensures, c .before .normalize3 .ensures)))

@@ -1,7 +1,7 @@
 -- `room_for`: each test of a quotient is that of a product. Assumes nothing.
 use native.Mathlib.Omega.{arith}
 use borrow.Author.Tests.{le-leb, lt-leb}
-use Rattle.answer.proofs.Laws.{fits, short}
+use Rattle.answer.proofs.Laws.{roomy, short}
 use Rattle.answer.proofs.answer.room_for.Statement.{statement}
 use Rattle.answer.proofs.answer.room_for.Tie as tie
 
@@ -10,7 +10,7 @@ room-for-spec =
     tie.close
     (tie.spec
     (λ c. simp (short 3 _ _ (omega arith) (c .if1 .taken)))
-    (λ c. simp (fits 3 _ _ (omega arith) (c .before .if1 .left), short 3 _ _ (omega arith) (c .if2 .taken)))
-    (λ c. simp (fits 3 _ _ (omega arith) (c .before .before .if1 .left), fits 3 _ _ (omega arith) (c .before .if2 .left), short 2 _ _ (omega arith) (c .if3 .taken)))
-    (λ c. simp (fits 3 _ _ (omega arith) (c .before .before .before .before .if1 .left), fits 3 _ _ (omega arith) (c .before .before .before .if2 .left), fits 2 _ _ (omega arith) (c .before .before .if3 .left), lt-leb _ _ (c .if4 .taken)))
-    (λ c. simp (fits 3 _ _ (omega arith) (c .before .before .before .before .if1 .left), fits 3 _ _ (omega arith) (c .before .before .before .if2 .left), fits 2 _ _ (omega arith) (c .before .before .if3 .left), le-leb _ _ (c .if4 .left))))
+    (λ c. simp (roomy 3 _ _ (omega arith) (c .before .if1 .left), short 3 _ _ (omega arith) (c .if2 .taken)))
+    (λ c. simp (roomy 3 _ _ (omega arith) (c .before .before .if1 .left), roomy 3 _ _ (omega arith) (c .before .if2 .left), short 2 _ _ (omega arith) (c .if3 .taken)))
+    (λ c. simp (roomy 3 _ _ (omega arith) (c .before .before .before .before .if1 .left), roomy 3 _ _ (omega arith) (c .before .before .before .if2 .left), roomy 2 _ _ (omega arith) (c .before .before .if3 .left), lt-leb _ _ (c .if4 .taken)))
+    (λ c. simp (roomy 3 _ _ (omega arith) (c .before .before .before .before .if1 .left), roomy 3 _ _ (omega arith) (c .before .before .before .if2 .left), roomy 2 _ _ (omega arith) (c .before .before .if3 .left), le-leb _ _ (c .if4 .left))))

@@ -19,9 +19,9 @@ none nan e = refl
 none (inf s) e = refl
 none (fin s m d) e = absurd (true≢false e)
 
-float-from-bits-top : tie.Need-float-from-bits-top
+float-from-bits-infinity : tie.Need-float-from-bits-infinity
 unfolding nanBits
-float-from-bits-top c = tt
+float-from-bits-infinity c = tt
 
 returns : tie.Need-returns
 unfolding ofBits neg
@@ -32,4 +32,4 @@ unfolding ofBits neg
 returns-2 c = none (c .before .args .x) (c .if1 .left)
 
 pub is-finite-spec : {M : Type 1} → statement M
-is-finite-spec = tie.close (tie.spec float-from-bits-top returns returns-2)
+is-finite-spec = tie.close (tie.spec float-from-bits-infinity returns returns-2)

@@ -17,10 +17,10 @@ module _ (c : tie.Start) where
   few : z ≤ 63
   few = let e : z + suc (top-of .0) ≡ 64 = top-of .1 in omega arith
 
-  enough-zeros : c .args .top ≤ z
+  enough-zeros : c .args .zeros ≤ z
   enough-zeros = let t = top-of in enough _ (c .args .exp) _ z (t .0) (t .1) (t .2) (t .3) (c .pre .1) (c .pre .2) (c .pre .3)
 
-  within : z - c .args .top ≤ c .args .exp
+  within : z - c .args .zeros ≤ c .args .exp
   within = let t = top-of in spare (c .args .sig) _ _ z (t .0) (t .1) (t .2) (t .3) (c .pre .1) (c .pre .2) (c .pre .3)
 
 returns : tie.Need-returns

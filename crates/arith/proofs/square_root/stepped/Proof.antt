@@ -1,6 +1,5 @@
 -- `stepped`: the whole part of the root, and one more where the rest is above it. Assumes nothing.
 use borrow.Author.Needs.{needs}
-use mathlib.Core.Path.{_≡_}
 use Prim.Native.Nat.{ℕ, zero, suc, _+_, _-_, _*_, _≤_, _<_}
 use native.Mathlib.Omega.{arith}
 use Rattle.arith.specs.Parts.{WholeRoot, NearestRoot}

@@ -1,4 +1,4 @@
--- `new_bounded_quad`: both levels, then the quad. Assumes nothing.
+-- `new_bounded_quad`: both shares, then the quad. Assumes nothing.
 use borrow.Author.Needs.{needs}
 use Rattle.face.proofs.face.new_bounded_quad.Statement.{statement}
 use Rattle.face.proofs.face.new_bounded_quad.Tie as tie
@@ -12,6 +12,6 @@ new-bounded-quad-spec =
     (λ c κs. search needs)
     (λ c. rw (
       c .quad-with .ensures,
-      c .before .level-of2 .ensures,
-      c .before .before .level-of .ensures,
+      c .before .share-reached2 .ensures,
+      c .before .before .share-reached .ensures,
     )))

@@ -1,6 +1,6 @@
 -- `wrap_across`: by the one reciprocal length of both, or each by its own. Assumes nothing.
 use borrow.Author.Needs.{needs}
-use mathlib.Core.Path.{_≡_, sym, ap, _∙_}
+use mathlib.Core.Path.{sym, ap, _∙_}
 use Rattle.face.specs.Texture.{halved}
 use Rattle.face.proofs.Wraps.{both-wrapped}
 use Rattle.face.proofs.uv_mapping.wrap_across.Statement.{statement}

@@ -1,6 +1,6 @@
 -- `wrap_by`: a reciprocal length at hand serves, and any other is asked. Assumes nothing.
 use borrow.Author.Needs.{needs}
-use mathlib.Core.Path.{_≡_, sym, ap, _∙_}
+use mathlib.Core.Path.{sym, ap, _∙_}
 use Rattle.face.specs.Texture.{halved}
 use Rattle.face.proofs.Wraps.{wrapped-by}
 use Rattle.face.proofs.uv_mapping.wrap_by.Statement.{statement}

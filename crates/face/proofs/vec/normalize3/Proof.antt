@@ -9,9 +9,4 @@ normalize3-spec =
     (tie.spec
     (λ c κs. search needs)
     (λ c κs. search needs)
-    (λ c κs. search needs)
-    (λ c. rw (
-      c .scale3 .ensures,
-      c .before .one-over .ensures,
-      c .before .before .len3 .ensures,
-    )))
+    (λ c. rw (c .scale3 .ensures, c .before .one-over .ensures)))
