@@ -1,15 +1,17 @@
 -- What a caller from C hands over, as the crates below take it. Definitions only.
 use Prim.Native.Nat.{ℕ}
-use mathlib.Core.Bool.{Bool, false}
+use mathlib.Core.Bool.{Bool, false, cond}
 use mathlib.Core.List.{List}
 use lib.ListN.{getD}
 use Rattle.face.specs.declared.vec.Vec2.{Vec2}
 use Rattle.face.specs.declared.vec.Vec3.{Vec3}
 use Rattle.face.specs.declared.triangle.Counts.{Counts}
 use Rattle.face.specs.declared.uv_mapping.UvOptions.{UvOptions}
-use Rattle.face.specs.Lists.{pick, each}
+use Rattle.face.specs.Lists.{each}
 use Rattle.face.specs.Vec.{v2, v3}
 use Rattle.face.specs.Triangles.{counts}
+use Rattle.placement.specs.declared.options.Choice.{Choice}
+use Rattle.placement.specs.declared.options.Choice.the-variants as option
 use Rattle.placement.specs.declared.placement.Choice3.{Choice3}
 use Rattle.placement.specs.declared.placement.Choice3.the-variants as choice3
 use Rattle.placement.specs.declared.placement.Turn.{Turn}
@@ -19,8 +21,6 @@ use Rattle.cheap_column.specs.declared.CheapColumn.{CheapColumn}
 use Rattle.plane_builder.specs.declared.Plane.{Plane}
 use Rattle.column.specs.declared.Subdivisions.{Subdivisions}
 use Rattle.column.specs.declared.Subdivisions.the-variants as subdivisions
-use Rattle.column.specs.declared.Choice.{Choice}
-use Rattle.column.specs.declared.Choice.the-variants as option
 use Rattle.column.specs.declared.Side.{Side}
 use Rattle.column.specs.declared.Column.{Column}
 use Rattle.boundary.specs.declared.given.CVec2.{CVec2}
@@ -47,19 +47,19 @@ countsIn c = counts (c .vertices) (c .indices)
 
 -- ---- a choice is there where its bool says so
 abbrev pub choice3Of : CChoice3 → Choice3
-choice3Of c = pick (c .given) (choice3.With (vec3Of (c .value))) choice3.Absent
+choice3Of c = cond (c .given) (choice3.With (vec3Of (c .value))) choice3.Absent
 
 abbrev pub turnOf : CTurn → Turn
-turnOf t = pick (t .given) (turn.Rows (vec3Of (t .first)) (vec3Of (t .second)) (vec3Of (t .third))) turn.Absent
+turnOf t = cond (t .given) (turn.Rows (vec3Of (t .first)) (vec3Of (t .second)) (vec3Of (t .third))) turn.Absent
 
 abbrev pub placementOf : CPlacement → Placement
 placementOf s = record { scale = choice3Of (s .scale); turn = turnOf (s .turn); offset = choice3Of (s .offset) }
 
 abbrev pub choiceOf : CChoice → Choice
-choiceOf c = pick (c .given) (option.With (c .option)) option.Absent
+choiceOf c = cond (c .given) (option.With (c .option)) option.Absent
 
 abbrev pub subdivisionsOf : CSubdivisions → Subdivisions
-subdivisionsOf s = pick (s .given) (subdivisions.Of (s .number)) subdivisions.Absent
+subdivisionsOf s = cond (s .given) (subdivisions.Of (s .number)) subdivisions.Absent
 
 -- ---- jobs
 abbrev pub planeOf : CPlane → Plane

@@ -4,10 +4,10 @@ ghost use Rattle.boundary.specs.Given.{planeOf, choiceOf, sideOf, sidesO
 use crate::given::CPlacement;
 use crate::given::CVec2;
 use cheap_column::CheapColumn;
-use column::Choice;
 use column::Column;
 use column::Side;
 use column::Subdivisions;
+use placement::options::Choice;
 use plane_builder::Plane;
 
 #[repr(C)]

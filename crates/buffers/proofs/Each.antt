@@ -1,12 +1,11 @@
 -- Faces laid one by one, each where it fits: where there is room for all of them, all are laid. Assumes nothing.
 use mathlib.Core.Path.{_≡_, refl, sym, ap, ap₂, _∙_}
-use mathlib.Core.Bool.{Bool, true, false}
+use mathlib.Core.Bool.{Bool, true, false, cond}
 use mathlib.Core.List.{List, [], _∷_, _++_}
 use Prim.Native.Nat.{ℕ, _+_, _*_, _≤_}
 use native.Mathlib.Omega.{arith}
 use lib.ListN.{length}
 use Rattle.face.specs.declared.triangle.Counts.{Counts}
-use Rattle.face.specs.Lists.{pick}
 use Rattle.buffers.specs.Mesh.{Mesh, none, also, sizeOf, measure}
 use Rattle.buffers.specs.Laying.{Buffers, fits, reaches, lay, layAll, layOne, laidIfFits, layEach}
 use Rattle.buffers.specs.Windows.{SameLengths}
@@ -62,7 +61,7 @@ each-all (f ∷ fs) at B e =
 pub if-fits-lengths : (f : Mesh) (at : Counts) (B : Buffers) → SameLengths B (laidIfFits f at B)
 if-fits-lengths f at B = go (fits at (sizeOf f) B)
   where
-    go : (x : Bool) → SameLengths B (pick x (lay f at B) B)
+    go : (x : Bool) → SameLengths B (cond x (lay f at B) B)
     go true = lay-lengths f at B
     go false = lengths-same B
 

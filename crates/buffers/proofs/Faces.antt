@@ -1,14 +1,13 @@
 -- A face of `face` as a mesh: its size, and what laying it writes into each buffer. Assumes nothing.
 use mathlib.Core.Path.{_≡_, refl, sym, ap, subst, _∙_}
 use mathlib.Core.Bool.{Bool, true, false}
-use mathlib.Core.List.{List}
-use Prim.Native.Nat.{ℕ, _+_, _*_, _/_, _≤_}
+use mathlib.Core.List.{List, map, map-append}
+use Prim.Native.Nat.{ℕ, zero, suc, _+_, _*_, _/_, _≤_}
 use native.Mathlib.Omega.{arith}
-use lib.ListN.{length, getD}
+use lib.ListN.{length, length-map, getD}
+use lib.Ieee.{Float}
 use Rattle.face.specs.declared.vec.Vec2.{Vec2}
 use Rattle.face.specs.declared.vec.Vec3.{Vec3}
-use Rattle.face.specs.declared.face.Quad.{Quad}
-use Rattle.face.specs.declared.face.Hexagon.{Hexagon}
 use Rattle.face.specs.declared.inset.Inset.{Inset}
 use Rattle.face.specs.declared.inset.Inset.the-variants.{None, Centroid, SmallestEdge}
 use Rattle.face.specs.declared.inset.InsetQuad.{InsetQuad}
@@ -17,35 +16,56 @@ use Rattle.face.specs.declared.triangle.Triangle.{Triangle}
 use Rattle.face.specs.declared.triangle.Counts.{Counts}
 use Rattle.face.specs.Lists.{each, chain}
 use Rattle.face.specs.Vec.{off2, off3}
-use Rattle.face.specs.Inset.{insetQuadOf, insetHexagonOf}
 use Rattle.face.specs.Triangles.{insetTriangles, insetCounts, quadTriangles, hexagonTriangles, noTriangle, counts}
 use Rattle.face.proofs.Filling.{length-each}
 use Rattle.face.proofs.Laws.{index-count}
+use Rattle.placement.specs.declared.placement.Stand.{Stand}
+use Rattle.placement.specs.Placing.{stood, stoodNormal}
+use Rattle.placement.specs.Speed.{shiftsAlone, shiftOf}
+use Rattle.placement.proofs.Shifts.{shift-stands}
 use Rattle.buffers.specs.Mesh.{Vertex, Mesh, also, sizeOf}
-use Rattle.buffers.specs.Laying.{Buffers, four, three, two, corners, laid, lay, fits, laidIfFits}
-use Rattle.buffers.specs.Faces.{vertexAt, faceOf, quadMesh, hexagonMesh, plainQuadMesh, plainHexagonMesh}
-use Rattle.buffers.proofs.Laid.{spread-each, spread-all, chain-outer}
+use Rattle.buffers.specs.Laying.{Buffers, four, three, two, corners, spread, laid, lay, fits, laidIfFits}
+use Rattle.buffers.specs.Faces.{vertexAt, faceOf, quadMesh, hexagonMesh, stoodVertex, standing}
+use Rattle.buffers.proofs.Laid.{spread-each, spread-all}
 use Rattle.buffers.proofs.Order.{same-four}
 use Rattle.buffers.proofs.Rooms.{room-is}
 
--- ---- a face of m points with the triangles tris
-module _ (m : ℕ) (ps : List Vec3) (n : Vec3) (ts : List Vec2) (tris : List Triangle) where
-  face-laid : (k : ℕ) → length tris ≡ k → (at : Counts) (B : Buffers) → lay (faceOf m ps n ts tris) at B
+-- ---- what stands is as many
+pub standing-size : (t : Stand) (m : Mesh) → sizeOf (standing t m) ≡ sizeOf m
+standing-size t m = ap (λ (k : ℕ). counts k (3 * length (m .triangles))) (length-map (m .vertices) (stoodVertex t))
+
+pub map-each : {A B : Type 0} (g : ℕ → A) (f : A → B) (n : ℕ) → map f (each g n) ≡ each (λ k. f (g k)) n
+map-each g f zero = refl
+map-each g f (suc n) = rw (map-append, map-each g f n)
+
+-- ---- points that are only moved stand so
+pub shifted-laid : (t : Stand) → shiftsAlone t ≡ true → (ps : List Vec3) (l : List Float) (at m : ℕ)
+    → laid l at (chain (λ k. three (shiftOf t (getD ps k off3))) m) ≡ laid l at (chain (λ k. three (stood t (getD ps k off3))) m)
+shifted-laid t e ps l at m = ap (laid l at) (go m)
+  where
+    go : (n : ℕ) → chain (λ k. three (shiftOf t (getD ps k off3))) n ≡ chain (λ k. three (stood t (getD ps k off3))) n
+    go zero = refl
+    go (suc n) = rw (go n, shift-stands t e (getD ps n off3))
+
+-- ---- a face of m points with the triangles tris, where it stands
+module _ (t : Stand) (m : ℕ) (ps : List Vec3) (n : Vec3) (ts : List Vec2) (tris : List Triangle) where
+  face-laid : (k : ℕ) → length tris ≡ k → (at : Counts) (B : Buffers) → lay (standing t (faceOf m ps n ts tris)) at B
       ≡ four
-      (laid (B .vertices) (3 * at .vertices .0) (chain (λ j. three (getD ps j off3)) m))
-      (laid (B .normals) (3 * at .vertices .0) (chain (λ j. three n) m))
+      (laid (B .vertices) (3 * at .vertices .0) (chain (λ j. three (stood t (getD ps j off3))) m))
+      (laid (B .normals) (3 * at .vertices .0) (chain (λ j. three (stoodNormal t n)) m))
       (laid (B .uvs) (2 * at .vertices .0) (chain (λ j. two (getD ts j off2)) m))
       (laid (B .indices) (at .indices .0) (chain (λ j. corners (at .vertices .0) (getD tris j noTriangle)) k))
   unfolding lay
   face-laid k e at B =
+      let w = map-each (vertexAt ps n ts) (stoodVertex t) m in
       same-four
-      (ap (laid (B .vertices) (3 * at .vertices .0)) (spread-each (λ (w : Vertex). three (w .position)) (vertexAt ps n ts) m))
-      (ap (laid (B .normals) (3 * at .vertices .0)) (spread-each (λ (w : Vertex). three (w .normal)) (vertexAt ps n ts) m))
-      (ap (laid (B .uvs) (2 * at .vertices .0)) (spread-each (λ (w : Vertex). two (w .uv)) (vertexAt ps n ts) m))
+      (ap (laid (B .vertices) (3 * at .vertices .0)) (ap (spread (λ (w : Vertex). three (w .position))) w ∙ spread-each (λ (w : Vertex). three (w .position)) (λ j. stoodVertex t (vertexAt ps n ts j)) m))
+      (ap (laid (B .normals) (3 * at .vertices .0)) (ap (spread (λ (w : Vertex). three (w .normal))) w ∙ spread-each (λ (w : Vertex). three (w .normal)) (λ j. stoodVertex t (vertexAt ps n ts j)) m))
+      (ap (laid (B .uvs) (2 * at .vertices .0)) (ap (spread (λ (w : Vertex). two (w .uv))) w ∙ spread-each (λ (w : Vertex). two (w .uv)) (λ j. stoodVertex t (vertexAt ps n ts j)) m))
       (ap (laid (B .indices) (at .indices .0)) (spread-all (corners (at .vertices .0)) tris noTriangle k e))
 
-  face-size : sizeOf (faceOf m ps n ts tris) ≡ counts m (3 * length tris)
-  face-size = ap (λ (k : ℕ). counts k (3 * length tris)) (length-each (vertexAt ps n ts) m)
+face-size : (m : ℕ) (ps : List Vec3) (n : Vec3) (ts : List Vec2) (tris : List Triangle) → sizeOf (faceOf m ps n ts tris) ≡ counts m (3 * length tris)
+face-size m ps n ts tris = ap (λ (k : ℕ). counts k (3 * length tris)) (length-each (vertexAt ps n ts) m)
 
 -- ---- what an inset's counts are: few, and the triangles' number is a third of the indices'
 pub record Counted (how : Inset) (v : ℕ) (tris : List Triangle) : Type 0 where
@@ -74,54 +94,24 @@ pub hexagon-size : (how : Inset) (h : InsetHexagon) → sizeOf (hexagonMesh how 
 unfolding hexagonMesh
 hexagon-size how h = face-size (insetCounts how 6 4 .vertices .0) (h .positions) (h .normal) (h .uvs) (insetTriangles how 6 hexagonTriangles) ∙ size-is how 6 hexagonTriangles
 
-module _ (how : Inset) (at : Counts) (B : Buffers) where
-  pub quad-laid : (q : InsetQuad) → lay (quadMesh how q) at B
+module _ (t : Stand) (how : Inset) (at : Counts) (B : Buffers) where
+  pub quad-laid : (q : InsetQuad) → lay (standing t (quadMesh how q)) at B
       ≡ four
-      (laid (B .vertices) (3 * at .vertices .0) (chain (λ j. three (getD (q .positions) j off3)) (insetCounts how 4 2 .vertices .0)))
-      (laid (B .normals) (3 * at .vertices .0) (chain (λ j. three (q .normal)) (insetCounts how 4 2 .vertices .0)))
+      (laid (B .vertices) (3 * at .vertices .0) (chain (λ j. three (stood t (getD (q .positions) j off3))) (insetCounts how 4 2 .vertices .0)))
+      (laid (B .normals) (3 * at .vertices .0) (chain (λ j. three (stoodNormal t (q .normal))) (insetCounts how 4 2 .vertices .0)))
       (laid (B .uvs) (2 * at .vertices .0) (chain (λ j. two (getD (q .uvs) j off2)) (insetCounts how 4 2 .vertices .0)))
       (laid (B .indices) (at .indices .0) (chain (λ j. corners (at .vertices .0) (getD (insetTriangles how 4 quadTriangles) j noTriangle)) (insetCounts how 4 2 .indices .0 / 3)))
   unfolding quadMesh
-  quad-laid q = face-laid (insetCounts how 4 2 .vertices .0) (q .positions) (q .normal) (q .uvs) (insetTriangles how 4 quadTriangles) _ (counted how 4 quadTriangles .third) at B
+  quad-laid q = face-laid t (insetCounts how 4 2 .vertices .0) (q .positions) (q .normal) (q .uvs) (insetTriangles how 4 quadTriangles) _ (counted how 4 quadTriangles .third) at B
 
-  pub hexagon-laid : (h : InsetHexagon) → lay (hexagonMesh how h) at B
+  pub hexagon-laid : (h : InsetHexagon) → lay (standing t (hexagonMesh how h)) at B
       ≡ four
-      (laid (B .vertices) (3 * at .vertices .0) (chain (λ j. three (getD (h .positions) j off3)) (insetCounts how 6 4 .vertices .0)))
-      (laid (B .normals) (3 * at .vertices .0) (chain (λ j. three (h .normal)) (insetCounts how 6 4 .vertices .0)))
+      (laid (B .vertices) (3 * at .vertices .0) (chain (λ j. three (stood t (getD (h .positions) j off3))) (insetCounts how 6 4 .vertices .0)))
+      (laid (B .normals) (3 * at .vertices .0) (chain (λ j. three (stoodNormal t (h .normal))) (insetCounts how 6 4 .vertices .0)))
       (laid (B .uvs) (2 * at .vertices .0) (chain (λ j. two (getD (h .uvs) j off2)) (insetCounts how 6 4 .vertices .0)))
       (laid (B .indices) (at .indices .0) (chain (λ j. corners (at .vertices .0) (getD (insetTriangles how 6 hexagonTriangles) j noTriangle)) (insetCounts how 6 4 .indices .0 / 3)))
   unfolding hexagonMesh
-  hexagon-laid h = face-laid (insetCounts how 6 4 .vertices .0) (h .positions) (h .normal) (h .uvs) (insetTriangles how 6 hexagonTriangles) _ (counted how 6 hexagonTriangles .third) at B
-
--- ---- a face without an inset has no points past its own
-module _ (at : Counts) (B : Buffers) where
-  pub plain-quad-laid : (q : Quad) → 4 ≤ length (q .positions) → 4 ≤ length (q .uvs) → lay (plainQuadMesh q) at B
-      ≡ four
-      (laid (B .vertices) (3 * at .vertices .0) (chain (λ j. three (getD (q .positions) j off3)) 4))
-      (laid (B .normals) (3 * at .vertices .0) (chain (λ j. three (q .normal)) 4))
-      (laid (B .uvs) (2 * at .vertices .0) (chain (λ j. two (getD (q .uvs) j off2)) 4))
-      (laid (B .indices) (at .indices .0) (chain (λ j. corners (at .vertices .0) (getD quadTriangles j noTriangle)) 2))
-  plain-quad-laid q p t =
-      quad-laid None at B (insetQuadOf None q)
-      ∙ same-four
-      (ap (laid (B .vertices) (3 * at .vertices .0)) (sym (chain-outer three (q .positions) (q .positions) off3 4 p)))
-      refl
-      (ap (laid (B .uvs) (2 * at .vertices .0)) (sym (chain-outer two (q .uvs) (q .uvs) off2 4 t)))
-      refl
-
-  pub plain-hexagon-laid : (h : Hexagon) → 6 ≤ length (h .positions) → 6 ≤ length (h .uvs) → lay (plainHexagonMesh h) at B
-      ≡ four
-      (laid (B .vertices) (3 * at .vertices .0) (chain (λ j. three (getD (h .positions) j off3)) 6))
-      (laid (B .normals) (3 * at .vertices .0) (chain (λ j. three (h .normal)) 6))
-      (laid (B .uvs) (2 * at .vertices .0) (chain (λ j. two (getD (h .uvs) j off2)) 6))
-      (laid (B .indices) (at .indices .0) (chain (λ j. corners (at .vertices .0) (getD hexagonTriangles j noTriangle)) 4))
-  plain-hexagon-laid h p t =
-      hexagon-laid None at B (insetHexagonOf None h)
-      ∙ same-four
-      (ap (laid (B .vertices) (3 * at .vertices .0)) (sym (chain-outer three (h .positions) (h .positions) off3 6 p)))
-      refl
-      (ap (laid (B .uvs) (2 * at .vertices .0)) (sym (chain-outer two (h .uvs) (h .uvs) off2 6 t)))
-      refl
+  hexagon-laid h = face-laid t (insetCounts how 6 4 .vertices .0) (h .positions) (h .normal) (h .uvs) (insetTriangles how 6 hexagonTriangles) _ (counted how 6 hexagonTriangles .third) at B
 
 -- ---- what the test of room gives the writers, in the words of their size
 pub record Written (how : Inset) (v : ℕ) (tris : List Triangle) (at size : Counts) (B : Buffers) : Type 0 where

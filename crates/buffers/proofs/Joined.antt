@@ -11,12 +11,13 @@ use Rattle.face.specs.declared.inset.InsetQuad.{InsetQuad}
 use Rattle.face.specs.declared.inset.InsetHexagon.{InsetHexagon}
 use Rattle.face.specs.declared.triangle.Triangle.{Triangle}
 use Rattle.face.specs.declared.triangle.Counts.{Counts}
-use Rattle.face.specs.Triangles.{noTriangle, insetTriangles, insetCounts, quadTriangles, hexagonTriangles, counts}
+use Rattle.face.specs.Triangles.{noTriangle, shifted, insetTriangles, insetCounts, quadTriangles, hexagonTriangles, counts}
 use Rattle.face.proofs.Filling.{length-each}
 use Rattle.face.proofs.Laws.{Below, quad-indices-below, hexagon-indices-below}
-use Rattle.buffers.specs.Mesh.{Vertex, Mesh, none, also, sizeOf, measure, startOf, after, trianglesFrom, verticesOf, joined}
+use Rattle.buffers.specs.Mesh.{Vertex, Mesh, none, also, sizeOf, measure, startOf, trianglesFrom, verticesOf, joined}
 use Rattle.buffers.specs.Laying.{Buffers, four, three, two, corners, spread, laid, lay, layAll}
-use Rattle.buffers.specs.Faces.{vertexAt, faceOf, quadMesh, hexagonMesh}
+use Rattle.placement.specs.declared.placement.Stand.{Stand}
+use Rattle.buffers.specs.Faces.{vertexAt, faceOf, quadMesh, hexagonMesh, stoodVertex, standing}
 use Rattle.buffers.specs.Windows.{faceAt, Between, Within, AlikeOutside, Holds, Corners, Own, AllOwn, OfFace}
 use Rattle.buffers.proofs.Laid.{laid-append, laid-nothing, spread-append}
 use Rattle.buffers.proofs.Order.{same-four, position-numbers, normal-numbers, uv-numbers, index-numbers}
@@ -30,8 +31,8 @@ vertices-sum (f ∷ fs) = length-append (f .vertices) (verticesOf fs) ∙ ap (λ
 triangles-length : (b : ℕ) (fs : List Mesh) → length (trianglesFrom b fs) ≡ total (λ f. length (f .triangles)) fs
 triangles-length b [] = refl
 triangles-length b (f ∷ fs) =
-    length-append (map (after b) (f .triangles)) (trianglesFrom (b + length (f .vertices)) fs)
-    ∙ ap₂ (λ (x y : ℕ). x + y) (length-map (f .triangles) (after b)) (triangles-length (b + length (f .vertices)) fs)
+    length-append (map (shifted b) (f .triangles)) (trianglesFrom (b + length (f .vertices)) fs)
+    ∙ ap₂ (λ (x y : ℕ). x + y) (length-map (f .triangles) (shifted b)) (triangles-length (b + length (f .vertices)) fs)
 
 triangles-sum : (fs : List Mesh) → 3 * total (λ f. length (f .triangles)) fs ≡ measure fs .indices .0
 triangles-sum [] = refl
@@ -41,9 +42,12 @@ pub joined-size : (fs : List Mesh) → sizeOf (joined fs) ≡ measure fs
 joined-size fs = ap₂ counts (vertices-sum fs) (ap (λ (x : ℕ). 3 * x) (triangles-length 0 fs) ∙ triangles-sum fs)
 
 -- ---- laying all is laying the one
-corners-after : (b c : ℕ) (ts : List Triangle) → spread (corners b) (map (after c) ts) ≡ spread (corners (b + c)) ts
-corners-after b c [] = refl
-corners-after b c (t ∷ ts) = rw (corners-after b c ts, add-assoc b c (t .0 .0), add-assoc b c (t .1 .0), add-assoc b c (t .2 .0))
+corner-shifted : (b c x : ℕ) → x + c + b ≡ x + (b + c)
+corner-shifted b c x = omega arith
+
+corners-shifted : (b c : ℕ) (ts : List Triangle) → spread (corners b) (map (shifted c) ts) ≡ spread (corners (b + c)) ts
+corners-shifted b c [] = refl
+corners-shifted b c (t ∷ ts) = rw (corners-shifted b c ts, corner-shifted b c (t .0 .0), corner-shifted b c (t .1 .0), corner-shifted b c (t .2 .0))
 
 seam : {A : Type 0} (l : List A) (at at′ : ℕ) (xs ys zs : List A) → at + length xs ≡ at′ → xs ++ ys ≡ zs → laid (laid l at xs) at′ ys ≡ laid l at zs
 seam l at at′ xs ys zs e p = rw (← e, ← p) (laid-append l at xs ys)
@@ -66,8 +70,8 @@ all-joined b c (f ∷ fs) at B e =
     (seam _ _ _ _ _ _ (omega (arith, uv-numbers f)) (sym (spread-append (λ (w : Vertex). two (w .uv)) (f .vertices) (verticesOf fs))))
     (seam _ _ _ _ _ _ (omega (arith, index-numbers f (at .vertices .0)))
     (ap (λ (x : ℕ). spread (corners x) (f .triangles) ++ spread (corners b) (trianglesFrom (c + n) fs)) e
-    ∙ ap (λ (x : List ℕ). x ++ spread (corners b) (trianglesFrom (c + n) fs)) (sym (corners-after b c (f .triangles)))
-    ∙ sym (spread-append (corners b) (map (after c) (f .triangles)) (trianglesFrom (c + n) fs))))
+    ∙ ap (λ (x : List ℕ). x ++ spread (corners b) (trianglesFrom (c + n) fs)) (sym (corners-shifted b c (f .triangles)))
+    ∙ sym (spread-append (corners b) (map (shifted c) (f .triangles)) (trianglesFrom (c + n) fs))))
 
 pub all-is-joined : (fs : List Mesh) (at : Counts) (B : Buffers) → layAll fs at B ≡ lay (joined fs) at B
 unfolding lay
@@ -113,22 +117,22 @@ abbrev trianglesBefore : List Mesh → ℕ → ℕ
 trianglesBefore fs k = total (λ f. length (f .triangles)) (take k fs)
 
 pub triangle-at : (b : ℕ) (fs : List Mesh) (k i : ℕ) → k < length fs → i < length (faceAt fs k .triangles)
-    → getD (trianglesFrom b fs) (trianglesBefore fs k + i) noTriangle ≡ after (b + startOf fs k .vertices .0) (getD (faceAt fs k .triangles) i noTriangle)
+    → getD (trianglesFrom b fs) (trianglesBefore fs k + i) noTriangle ≡ shifted (b + startOf fs k .vertices .0) (getD (faceAt fs k .triangles) i noTriangle)
 triangle-at b [] k i h l = absurd (let g : k < 0 = h in omega arith)
 triangle-at b (f ∷ fs) zero i h l =
     let rest : List Triangle = trianglesFrom (b + length (f .vertices)) fs in
-    let m : length (map (after b) (f .triangles)) ≡ length (f .triangles) = length-map (f .triangles) (after b) in
-    ap (λ (k : ℕ). getD (map (after b) (f .triangles) ++ rest) k noTriangle) (zero-add i)
-    ∙ List·getD-append (map (after b) (f .triangles)) rest noTriangle i (omega (arith, m))
-    ∙ mapped (after b) (f .triangles) i noTriangle noTriangle l
-    ∙ ap (λ (x : ℕ). after x (getD (f .triangles) i noTriangle)) (sym (add-zero b))
+    let m : length (map (shifted b) (f .triangles)) ≡ length (f .triangles) = length-map (f .triangles) (shifted b) in
+    ap (λ (k : ℕ). getD (map (shifted b) (f .triangles) ++ rest) k noTriangle) (zero-add i)
+    ∙ List·getD-append (map (shifted b) (f .triangles)) rest noTriangle i (omega (arith, m))
+    ∙ mapped (shifted b) (f .triangles) i noTriangle noTriangle l
+    ∙ ap (λ (x : ℕ). shifted x (getD (f .triangles) i noTriangle)) (sym (add-zero b))
 triangle-at b (f ∷ fs) (suc k) i h l =
     let n : ℕ = length (f .vertices) in
-    let m : length (map (after b) (f .triangles)) ≡ length (f .triangles) = length-map (f .triangles) (after b) in
-    ap (λ (x : ℕ). getD (map (after b) (f .triangles) ++ trianglesFrom (b + n) fs) x noTriangle) (let e : length (f .triangles) + trianglesBefore fs k + i ≡ length (map (after b) (f .triangles)) + (trianglesBefore fs k + i) = omega (arith, m) in e)
-    ∙ getD-append-add (map (after b) (f .triangles)) (trianglesFrom (b + n) fs) (trianglesBefore fs k + i) noTriangle
+    let m : length (map (shifted b) (f .triangles)) ≡ length (f .triangles) = length-map (f .triangles) (shifted b) in
+    ap (λ (x : ℕ). getD (map (shifted b) (f .triangles) ++ trianglesFrom (b + n) fs) x noTriangle) (let e : length (f .triangles) + trianglesBefore fs k + i ≡ length (map (shifted b) (f .triangles)) + (trianglesBefore fs k + i) = omega (arith, m) in e)
+    ∙ getD-append-add (map (shifted b) (f .triangles)) (trianglesFrom (b + n) fs) (trianglesBefore fs k + i) noTriangle
     ∙ triangle-at (b + n) fs k i (let g : suc k < suc (length fs) = h in omega arith) l
-    ∙ ap (λ (x : ℕ). after x (getD (faceAt fs k .triangles) i noTriangle)) (add-assoc b n (startOf fs k .vertices .0))
+    ∙ ap (λ (x : ℕ). shifted x (getD (faceAt fs k .triangles) i noTriangle)) (add-assoc b n (startOf fs k .vertices .0))
 
 total-next : (w : Mesh → ℕ) (fs : List Mesh) (k : ℕ) → k < length fs → total w (take (suc k) fs) ≡ total w (take k fs) + w (faceAt fs k)
 total-next w [] k h = absurd (let g : k < 0 = h in omega arith)
@@ -150,7 +154,7 @@ own-vertices fs own j h =
     let t = getD (faceAt fs k .triangles) i noTriangle in
     let q : startOf fs (suc k) .vertices .0 ≡ startOf fs k .vertices .0 + length (faceAt fs k .vertices) = ap (λ (c : Counts). c .vertices .0) (next-start fs k (r .there)) in
     let o = own k (r .there) i l in
-    let w : Corners (startOf fs k .vertices .0) (startOf fs (suc k) .vertices .0) (after (0 + startOf fs k .vertices .0) t)
+    let w : Corners (startOf fs k .vertices .0) (startOf fs (suc k) .vertices .0) (shifted (0 + startOf fs k .vertices .0) t)
     = ((omega (arith, o .0 .0), omega (arith, o .0 .1, q)), (omega (arith, o .1 .0), omega (arith, o .1 .1, q)), (omega (arith, o .2 .0), omega (arith, o .2 .1, q))) in
     let a : 3 * trianglesBefore fs k ≡ startOf fs k .indices .0 = triangles-sum (take k fs) in
     let b : 3 * trianglesBefore fs (suc k) ≡ startOf fs (suc k) .indices .0 = triangles-sum (take (suc k) fs) in
@@ -177,3 +181,6 @@ unfolding hexagonMesh
 hexagon-own how x i h =
     rw (length-each (vertexAt (x .positions) (x .normal) (x .uvs)) (insetCounts how 6 4 .vertices .0))
     (from-below _ (getD (insetTriangles how 6 hexagonTriangles) i noTriangle) (hexagon-indices-below how i h))
+
+pub standing-own : (t : Stand) (m : Mesh) → Own m → Own (standing t m)
+standing-own t m o i h = rw (length-map (m .vertices) (stoodVertex t)) (o i h)

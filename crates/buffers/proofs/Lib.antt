@@ -5,4 +5,5 @@ pub mod Windows
 pub mod Joined
 pub mod Faces
 pub mod Each
+pub mod Named
 pub mod Determined

@@ -57,5 +57,5 @@ module _ (c : Counts) (v n t i : ℕ) where
       )
 
 -- a triangle that names vertices of its own mesh, after b others, within 16 bits
-pub numbered : (b m : ℕ) (t u : Triangle) → t ≡ u → Below m u → b + m ≤ 65536 → (b + t .0 .0 ≤ 65535) × (b + t .1 .0 ≤ 65535) × (b + t .2 .0 ≤ 65535)
+pub numbered : (b m : ℕ) (t u : Triangle) → t ≡ u → Below m u → b + m ≤ 65536 → (t .0 .0 + b ≤ 65535) × (t .1 .0 + b ≤ 65535) × (t .2 .0 + b ≤ 65535)
 numbered b m t u e h r = rw e (omega (arith, h .0), omega (arith, h .1), omega (arith, h .2))

@@ -1,15 +1,16 @@
 -- Four lent buffers, and what it is to lay a mesh into them; S4 to R17 are rows of docs/TRACE.md. Definitions only.
 use Prim.Native.Nat.{ℕ, zero, suc, _+_, _*_}
-use mathlib.Core.Bool.{Bool, _&&_}
+use mathlib.Core.Bool.{Bool, _&&_, cond}
 use mathlib.Core.List.{List, [], _∷_, _++_}
-use lib.ListN.{length, set}
+use lib.ListN.{length, set, getD}
 use lib.Dec.{leb}
 use lib.Ieee.{Float}
 use Rattle.face.specs.declared.vec.Vec2.{Vec2}
 use Rattle.face.specs.declared.vec.Vec3.{Vec3}
 use Rattle.face.specs.declared.triangle.Triangle.{Triangle}
 use Rattle.face.specs.declared.triangle.Counts.{Counts}
-use Rattle.face.specs.Lists.{pick}
+use Rattle.face.specs.Lists.{chain}
+use Rattle.face.specs.Triangles.{noTriangle, shifted}
 use Rattle.buffers.specs.Mesh.{Mesh, sizeOf, also}
 
 -- S4
@@ -29,9 +30,16 @@ three p = p .x ∷ p .y ∷ p .z ∷ []
 abbrev pub two : Vec2 → List Float
 two p = p .x ∷ p .y ∷ []
 
+abbrev pub numbersOf : Triangle → List ℕ
+numbersOf t = t .0 .0 ∷ t .1 .0 ∷ t .2 .0 ∷ []
+
 -- a triangle whose mesh lies after b vertices
 abbrev pub corners : ℕ → Triangle → List ℕ
-corners b t = (b + t .0 .0) ∷ (b + t .1 .0) ∷ (b + t .2 .0) ∷ []
+corners b t = numbersOf (shifted b t)
+
+-- the first m triangles of such a mesh
+abbrev pub firstCorners : ℕ → List Triangle → ℕ → List ℕ
+firstCorners b ts m = chain (λ k. corners b (getD ts k noTriangle)) m
 
 -- the numbers of many, end to end
 abbrev pub spread : {A B : Type 0} → (A → List B) → List A → List B
@@ -75,7 +83,7 @@ fits at size B = reaches (also at size) (length (B .vertices)) (length (B .norma
 
 -- a mesh laid where it fits, and nothing written where it does not
 abbrev pub laidIfFits : Mesh → Counts → Buffers → Buffers
-laidIfFits m at B = pick (fits at (sizeOf m) B) (lay m at B) B
+laidIfFits m at B = cond (fits at (sizeOf m) B) (lay m at B) B
 
 -- faces end to end from a place on, each where it fits
 unfoldable pub layEach : List Mesh → Counts → Buffers → Buffers

@@ -1,5 +1,6 @@
 pub mod Mesh
 pub mod Laying
+pub mod Lent
 pub mod Faces
 pub mod Steps
 pub mod Windows

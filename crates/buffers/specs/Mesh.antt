@@ -1,12 +1,12 @@
 -- A mesh, the sum of many, and many as one; S4 to X8 are rows of docs/TRACE.md. Definitions only.
-use Prim.Native.Nat.{ℕ, _+_, _*_}
+use Prim.Native.Nat.{ℕ, zero, suc, _+_, _*_}
 use mathlib.Core.List.{List, [], _∷_, _++_, map}
 use lib.ListN.{length, take}
 use Rattle.face.specs.declared.vec.Vec2.{Vec2}
 use Rattle.face.specs.declared.vec.Vec3.{Vec3}
 use Rattle.face.specs.declared.triangle.Triangle.{Triangle}
 use Rattle.face.specs.declared.triangle.Counts.{Counts}
-use Rattle.face.specs.Triangles.{tri, counts}
+use Rattle.face.specs.Triangles.{shifted, counts}
 
 pub record Vertex : Type 0 where
   pub position : Vec3
@@ -37,14 +37,10 @@ measure (f ∷ fs) = also (sizeOf f) (measure fs)
 abbrev pub startOf : List Mesh → ℕ → Counts
 startOf fs k = measure (take k fs)
 
--- a triangle of a mesh whose vertices lie after b others
-abbrev pub after : ℕ → Triangle → Triangle
-after b t = tri (b + t .0 .0) (b + t .1 .0) (b + t .2 .0)
-
 -- one mesh of a list of faces, after b vertices
 abbrev pub trianglesFrom : ℕ → List Mesh → List Triangle
 trianglesFrom b [] = []
-trianglesFrom b (f ∷ fs) = map (after b) (f .triangles) ++ trianglesFrom (b + length (f .vertices)) fs
+trianglesFrom b (f ∷ fs) = map (shifted b) (f .triangles) ++ trianglesFrom (b + length (f .vertices)) fs
 
 abbrev pub verticesOf : List Mesh → List Vertex
 verticesOf [] = []
@@ -52,3 +48,8 @@ verticesOf (f ∷ fs) = f .vertices ++ verticesOf fs
 
 abbrev pub joined : List Mesh → Mesh
 joined fs = record { vertices = verticesOf fs; triangles = trianglesFrom 0 fs }
+
+-- c 0 and c 1 and so on up to c (n - 1), counted together
+abbrev pub summed : (ℕ → Counts) → ℕ → Counts
+summed c zero = none
+summed c (suc n) = also (summed c n) (c n)

@@ -4,22 +4,26 @@ ghost use mathlib.Core.Path.{_≡_};
 ghost use mathlib.Core.Bool.{true};
 ghost use Prim.Native.Nat.{_+_, _*_, _≤_};
 ghost use lib.ListN.{length, getD};
-ghost use Rattle.face.specs.declared.inset.Inset.the-variants.{None};
 ghost use Rattle.face.specs.Lists.{chain};
 ghost use Rattle.face.specs.Vec.{off2, off3};
-ghost use Rattle.face.specs.Triangles.{insetTriangles, insetCounts, quadTriangles, hexagonTriangles, noTriangle};
+ghost use Rattle.face.specs.Triangles.{insetTriangles, insetCounts, quadTriangles, hexagonTriangles};
+ghost use Rattle.placement.specs.Placing.{stood};
+ghost use Rattle.placement.specs.Speed.{shiftOf};
 ghost use Rattle.buffers.specs.Mesh.{also, sizeOf};
-ghost use Rattle.buffers.specs.Laying.{four, three, two, corners, laid, lay, reachesFloats, reaches, fits, laidIfFits};
-ghost use Rattle.buffers.specs.Faces.{quadMesh, hexagonMesh, plainQuadMesh, plainHexagonMesh};
-use face::face::Hexagon;
+ghost use Rattle.buffers.specs.Laying.{four, three, two, corners, firstCorners, laid, lay, reachesFloats, reaches, fits, laidIfFits};
+ghost use Rattle.buffers.specs.Lent.{lending, entering, become};
+ghost use Rattle.buffers.specs.Faces.{standing, quadMesh, hexagonMesh, wallMesh};
 use face::face::Quad;
 use face::inset::Inset;
 use face::inset::InsetHexagon;
 use face::inset::InsetQuad;
 use face::triangle::Counts;
+use face::triangle::IndexPlace;
 use face::triangle::Triangle;
+use face::triangle::VertexNumber;
 use face::vec::Vec2;
 use face::vec::Vec3;
+use placement::placement::Stand;
 
 // Whether a mesh of a size, laid at a place, can be numbered and fits into buffers of these
 // lengths. No sum is formed before its parts are known to be small.
@@ -52,13 +56,14 @@ pub fn has_room(
     if size.indices.0 > indices - i {
         return false;
     }
-    has_floats(end, vertices, normals, uvs)
+    has_floats(VertexNumber(end), vertices, normals, uvs)
 }
 
-fn has_floats(v: usize, vertices: usize, normals: usize, uvs: usize) -> bool
-    requires { ⌜ v ≤ 65536 ⌝ }
-    ensures { λ r. ⌜ r ≡ reachesFloats v vertices normals uvs ⌝ }
+fn has_floats(end: VertexNumber, vertices: usize, normals: usize, uvs: usize) -> bool
+    requires { ⌜ end .0 ≤ 65536 ⌝ }
+    ensures { λ r. ⌜ r ≡ reachesFloats (end .0) vertices normals uvs ⌝ }
 {
+    let v = end.0;
     if 3 * v <= vertices {
         if 3 * v <= normals {
             return 2 * v <= uvs;
@@ -85,14 +90,15 @@ fn put2(buffer: &mut [f32], at: usize, p: Vec2)
 }
 
 // The vertex numbers of a triangle, each after b others.
-fn put_corners(buffer: &mut [u16], at: usize, b: usize, t: Triangle)
-    requires { ⌜ at + 3 ≤ length (now buffer) ⌝ }
-    requires { ⌜ (b + t .0 .0 ≤ 65535) × (b + t .1 .0 ≤ 65535) × (b + t .2 .0 ≤ 65535) ⌝ }
-    ensures { λ _. ⌜ now (buffer .exit) ≡ laid (now (buffer .entry)) at (corners b t) ⌝ }
+fn put_corners(buffer: &mut [u16], at: IndexPlace, b: VertexNumber, t: Triangle)
+    requires { ⌜ at .0 + 3 ≤ length (now buffer) ⌝ }
+    requires { ⌜ (t .0 .0 + b .0 ≤ 65535) × (t .1 .0 + b .0 ≤ 65535) × (t .2 .0 + b .0 ≤ 65535) ⌝ }
+    ensures { λ _. ⌜ now (buffer .exit) ≡ laid (now (buffer .entry)) (at .0) (corners (b .0) t) ⌝ }
 {
-    buffer[at] = (b + t.0.0) as u16;
-    buffer[at + 1] = (b + t.1.0) as u16;
-    buffer[at + 2] = (b + t.2.0) as u16;
+    let i = at.0;
+    buffer[i] = (t.0.0 + b.0) as u16;
+    buffer[i + 1] = (t.1.0 + b.0) as u16;
+    buffer[i + 2] = (t.2.0 + b.0) as u16;
 }
 
 fn put_normals(buffer: &mut [f32], at: usize, normal: Vec3, m: usize)
@@ -104,57 +110,78 @@ fn put_normals(buffer: &mut [f32], at: usize, normal: Vec3, m: usize)
     }
 }
 
-fn put_four(buffer: &mut [f32], at: usize, ps: [Vec3; 4])
-    requires { ⌜ at + 12 ≤ length (now buffer) ⌝ }
-    ensures { λ _. ⌜ now (buffer .exit) ≡ laid (now (buffer .entry)) at (chain (λ k. three (getD ps k off3)) 4) ⌝ }
-{
-    for k in 0usize..4 {
-        put3(buffer, at + 3 * k, ps[k]);
-    }
-}
-
-fn put_six(buffer: &mut [f32], at: usize, ps: [Vec3; 6])
-    requires { ⌜ at + 18 ≤ length (now buffer) ⌝ }
-    ensures { λ _. ⌜ now (buffer .exit) ≡ laid (now (buffer .entry)) at (chain (λ k. three (getD ps k off3)) 6) ⌝ }
-{
-    for k in 0usize..6 {
-        put3(buffer, at + 3 * k, ps[k]);
-    }
-}
-
-fn put_eight(buffer: &mut [f32], at: usize, ps: [Vec3; 8], m: usize)
+fn put_eight_stood(buffer: &mut [f32], at: usize, t: Stand, ps: [Vec3; 8], m: usize)
     requires { ⌜ (m ≤ 8) × (at + 3 * m ≤ length (now buffer)) ⌝ }
-    ensures { λ _. ⌜ now (buffer .exit) ≡ laid (now (buffer .entry)) at (chain (λ k. three (getD ps k off3)) m) ⌝ }
+    ensures { λ _. ⌜ now (buffer .exit) ≡ laid (now (buffer .entry)) at (chain (λ k. three (stood t (getD ps k off3))) m) ⌝ }
 {
     for k in 0usize..m {
-        put3(buffer, at + 3 * k, ps[k]);
+        put3(
+            buffer,
+            at + 3 * k,
+            placement::placement::stand_point(t, ps[k]),
+        );
     }
 }
 
-fn put_twelve(buffer: &mut [f32], at: usize, ps: [Vec3; 12], m: usize)
+fn put_eight_shifted(buffer: &mut [f32], at: usize, t: Stand, ps: [Vec3; 8], m: usize)
+    requires { ⌜ (m ≤ 8) × (at + 3 * m ≤ length (now buffer)) ⌝ }
+    ensures { λ _. ⌜ now (buffer .exit) ≡ laid (now (buffer .entry)) at (chain (λ k. three (shiftOf t (getD ps k off3))) m) ⌝ }
+{
+    for k in 0usize..m {
+        put3(
+            buffer,
+            at + 3 * k,
+            placement::placement::shift_point(t, ps[k]),
+        );
+    }
+}
+
+// A face that is only moved has a loop of its own: the steps between would be formed for every point, and dropped.
+fn put_eight(buffer: &mut [f32], at: usize, t: Stand, ps: [Vec3; 8], m: usize)
+    requires { ⌜ (m ≤ 8) × (at + 3 * m ≤ length (now buffer)) ⌝ }
+    ensures { λ _. ⌜ now (buffer .exit) ≡ laid (now (buffer .entry)) at (chain (λ k. three (stood t (getD ps k off3))) m) ⌝ }
+{
+    if placement::placement::is_shift(t) {
+        put_eight_shifted(buffer, at, t, ps, m);
+    } else {
+        put_eight_stood(buffer, at, t, ps, m);
+    }
+}
+
+fn put_twelve_stood(buffer: &mut [f32], at: usize, t: Stand, ps: [Vec3; 12], m: usize)
     requires { ⌜ (m ≤ 12) × (at + 3 * m ≤ length (now buffer)) ⌝ }
-    ensures { λ _. ⌜ now (buffer .exit) ≡ laid (now (buffer .entry)) at (chain (λ k. three (getD ps k off3)) m) ⌝ }
+    ensures { λ _. ⌜ now (buffer .exit) ≡ laid (now (buffer .entry)) at (chain (λ k. three (stood t (getD ps k off3))) m) ⌝ }
 {
     for k in 0usize..m {
-        put3(buffer, at + 3 * k, ps[k]);
+        put3(
+            buffer,
+            at + 3 * k,
+            placement::placement::stand_point(t, ps[k]),
+        );
     }
 }
 
-fn put_four_uvs(buffer: &mut [f32], at: usize, ts: [Vec2; 4])
-    requires { ⌜ at + 8 ≤ length (now buffer) ⌝ }
-    ensures { λ _. ⌜ now (buffer .exit) ≡ laid (now (buffer .entry)) at (chain (λ k. two (getD ts k off2)) 4) ⌝ }
+fn put_twelve_shifted(buffer: &mut [f32], at: usize, t: Stand, ps: [Vec3; 12], m: usize)
+    requires { ⌜ (m ≤ 12) × (at + 3 * m ≤ length (now buffer)) ⌝ }
+    ensures { λ _. ⌜ now (buffer .exit) ≡ laid (now (buffer .entry)) at (chain (λ k. three (shiftOf t (getD ps k off3))) m) ⌝ }
 {
-    for k in 0usize..4 {
-        put2(buffer, at + 2 * k, ts[k]);
+    for k in 0usize..m {
+        put3(
+            buffer,
+            at + 3 * k,
+            placement::placement::shift_point(t, ps[k]),
+        );
     }
 }
 
-fn put_six_uvs(buffer: &mut [f32], at: usize, ts: [Vec2; 6])
-    requires { ⌜ at + 12 ≤ length (now buffer) ⌝ }
-    ensures { λ _. ⌜ now (buffer .exit) ≡ laid (now (buffer .entry)) at (chain (λ k. two (getD ts k off2)) 6) ⌝ }
+fn put_twelve(buffer: &mut [f32], at: usize, t: Stand, ps: [Vec3; 12], m: usize)
+    requires { ⌜ (m ≤ 12) × (at + 3 * m ≤ length (now buffer)) ⌝ }
+    ensures { λ _. ⌜ now (buffer .exit) ≡ laid (now (buffer .entry)) at (chain (λ k. three (stood t (getD ps k off3))) m) ⌝ }
 {
-    for k in 0usize..6 {
-        put2(buffer, at + 2 * k, ts[k]);
+    if placement::placement::is_shift(t) {
+        put_twelve_shifted(buffer, at, t, ps, m);
+    } else {
+        put_twelve_stood(buffer, at, t, ps, m);
     }
 }
 
@@ -177,32 +204,30 @@ fn put_twelve_uvs(buffer: &mut [f32], at: usize, ts: [Vec2; 12], m: usize)
 }
 
 // The first m triangles of a quad with its inset, whose vertices come after b others.
-fn put_quad_triangles(buffer: &mut [u16], at: usize, how: Inset, b: usize, m: usize)
+fn put_quad_triangles(buffer: &mut [u16], at: IndexPlace, how: Inset, b: VertexNumber, m: usize)
     requires { ⌜ (m ≤ length (insetTriangles how 4 quadTriangles)) × (m ≤ 10) ⌝ }
-    requires { ⌜ (b + insetCounts how 4 2 .vertices .0 ≤ 65536) × (at + 3 * m ≤ length (now buffer)) ⌝ }
-    ensures { λ _. ⌜ now (buffer .exit) ≡ laid (now (buffer .entry)) at (chain (λ k. corners b (getD (insetTriangles how 4 quadTriangles) k noTriangle)) m) ⌝ }
+    requires { ⌜ (b .0 + insetCounts how 4 2 .vertices .0 ≤ 65536) × (at .0 + 3 * m ≤ length (now buffer)) ⌝ }
+    ensures { λ _. ⌜ now (buffer .exit) ≡ laid (now (buffer .entry)) (at .0) (firstCorners (b .0) (insetTriangles how 4 quadTriangles) m) ⌝ }
 {
     for k in 0usize..m {
-        put_corners(buffer, at + 3 * k, b, face::triangle::quad_triangle(how, k));
+        let t = face::triangle::quad_triangle(how, k);
+        put_corners(buffer, IndexPlace(at.0 + 3 * k), b, t);
     }
 }
 
-fn put_hexagon_triangles(buffer: &mut [u16], at: usize, how: Inset, b: usize, m: usize)
+fn put_hexagon_triangles(buffer: &mut [u16], at: IndexPlace, how: Inset, b: VertexNumber, m: usize)
     requires { ⌜ (m ≤ length (insetTriangles how 6 hexagonTriangles)) × (m ≤ 16) ⌝ }
-    requires { ⌜ (b + insetCounts how 6 4 .vertices .0 ≤ 65536) × (at + 3 * m ≤ length (now buffer)) ⌝ }
-    ensures { λ _. ⌜ now (buffer .exit) ≡ laid (now (buffer .entry)) at (chain (λ k. corners b (getD (insetTriangles how 6 hexagonTriangles) k noTriangle)) m) ⌝ }
+    requires { ⌜ (b .0 + insetCounts how 6 4 .vertices .0 ≤ 65536) × (at .0 + 3 * m ≤ length (now buffer)) ⌝ }
+    ensures { λ _. ⌜ now (buffer .exit) ≡ laid (now (buffer .entry)) (at .0) (firstCorners (b .0) (insetTriangles how 6 hexagonTriangles) m) ⌝ }
 {
     for k in 0usize..m {
-        put_corners(
-            buffer,
-            at + 3 * k,
-            b,
-            face::triangle::hexagon_triangle(how, k),
-        );
+        let t = face::triangle::hexagon_triangle(how, k);
+        put_corners(buffer, IndexPlace(at.0 + 3 * k), b, t);
     }
 }
 
 fn put_quad(
+    t: Stand,
     how: Inset,
     q: InsetQuad,
     at: Counts,
@@ -211,23 +236,25 @@ fn put_quad(
     uvs: &mut [f32],
     indices: &mut [u16],
 )
-    requires { ⌜ fits at (insetCounts how 4 2) (four (now vertices) (now normals) (now uvs) (now indices)) ≡ true ⌝ }
-    ensures { λ _. ⌜ four (now (vertices .exit)) (now (normals .exit)) (now (uvs .exit)) (now (indices .exit)) ≡ lay (quadMesh how q) at (four (now (vertices .entry)) (now (normals .entry)) (now (uvs .entry)) (now (indices .entry))) ⌝ }
+    requires { ⌜ fits at (insetCounts how 4 2) (lending vertices normals uvs indices) ≡ true ⌝ }
+    ensures { λ _. ⌜ become (lay (standing t (quadMesh how q)) at) vertices normals uvs indices ⌝ }
 {
+    let normal = placement::placement::stand_normal(t, q.normal);
     let size = face::triangle::quad_counts(how);
     let b = at.vertices.0;
     let m = size.vertices.0;
     let ps = q.positions;
     let ts = q.uvs;
-    put_eight(vertices, 3 * b, ps, m);
-    put_normals(normals, 3 * b, q.normal, m);
+    put_eight(vertices, 3 * b, t, ps, m);
+    put_normals(normals, 3 * b, normal, m);
     put_eight_uvs(uvs, 2 * b, ts, m);
-    put_quad_triangles(indices, at.indices.0, how, b, size.indices.0 / 3);
+    put_quad_triangles(indices, at.indices, how, at.vertices, size.indices.0 / 3);
 }
 
-// Lays a quad with its inset: four vertices, or eight. Answers whether there was room; where there
-// was none nothing is written.
+// Lays a quad with its inset where it comes to stand: four vertices, or eight. Answers whether there was room; where
+// there was none nothing is written.
 pub fn lay_quad(
+    t: Stand,
     how: Inset,
     q: InsetQuad,
     at: Counts,
@@ -236,8 +263,8 @@ pub fn lay_quad(
     uvs: &mut [f32],
     indices: &mut [u16],
 ) -> bool
-    ensures room { λ r. ⌜ r ≡ fits at (sizeOf (quadMesh how q)) (four (now (vertices .entry)) (now (normals .entry)) (now (uvs .entry)) (now (indices .entry))) ⌝ }
-    ensures buffers { λ _. ⌜ four (now (vertices .exit)) (now (normals .exit)) (now (uvs .exit)) (now (indices .exit)) ≡ laidIfFits (quadMesh how q) at (four (now (vertices .entry)) (now (normals .entry)) (now (uvs .entry)) (now (indices .entry))) ⌝ }
+    ensures room { λ r. ⌜ r ≡ fits at (sizeOf (standing t (quadMesh how q))) (entering vertices normals uvs indices) ⌝ }
+    ensures buffers { λ _. ⌜ become (laidIfFits (standing t (quadMesh how q)) at) vertices normals uvs indices ⌝ }
 {
     let size = face::triangle::quad_counts(how);
     if has_room(
@@ -248,13 +275,31 @@ pub fn lay_quad(
         uvs.len(),
         indices.len(),
     ) {
-        put_quad(how, q, at, vertices, normals, uvs, indices);
+        put_quad(t, how, q, at, vertices, normals, uvs, indices);
         return true;
     }
     false
 }
 
+// A quad inset, then laid where it comes to stand, if there is room: a part of a wall.
+pub fn lay_wall(
+    t: Stand,
+    how: Inset,
+    q: Quad,
+    at: Counts,
+    vertices: &mut [f32],
+    normals: &mut [f32],
+    uvs: &mut [f32],
+    indices: &mut [u16],
+)
+    ensures { λ _. ⌜ become (laidIfFits (wallMesh t how q) at) vertices normals uvs indices ⌝ }
+{
+    let part = insetting::inset_quad(how, q);
+    lay_quad(t, how, part, at, vertices, normals, uvs, indices);
+}
+
 fn put_hexagon(
+    t: Stand,
     how: Inset,
     h: InsetHexagon,
     at: Counts,
@@ -263,22 +308,24 @@ fn put_hexagon(
     uvs: &mut [f32],
     indices: &mut [u16],
 )
-    requires { ⌜ fits at (insetCounts how 6 4) (four (now vertices) (now normals) (now uvs) (now indices)) ≡ true ⌝ }
-    ensures { λ _. ⌜ four (now (vertices .exit)) (now (normals .exit)) (now (uvs .exit)) (now (indices .exit)) ≡ lay (hexagonMesh how h) at (four (now (vertices .entry)) (now (normals .entry)) (now (uvs .entry)) (now (indices .entry))) ⌝ }
+    requires { ⌜ fits at (insetCounts how 6 4) (lending vertices normals uvs indices) ≡ true ⌝ }
+    ensures { λ _. ⌜ become (lay (standing t (hexagonMesh how h)) at) vertices normals uvs indices ⌝ }
 {
+    let normal = placement::placement::stand_normal(t, h.normal);
     let size = face::triangle::hexagon_counts(how);
     let b = at.vertices.0;
     let m = size.vertices.0;
     let ps = h.positions;
     let ts = h.uvs;
-    put_twelve(vertices, 3 * b, ps, m);
-    put_normals(normals, 3 * b, h.normal, m);
+    put_twelve(vertices, 3 * b, t, ps, m);
+    put_normals(normals, 3 * b, normal, m);
     put_twelve_uvs(uvs, 2 * b, ts, m);
-    put_hexagon_triangles(indices, at.indices.0, how, b, size.indices.0 / 3);
+    put_hexagon_triangles(indices, at.indices, how, at.vertices, size.indices.0 / 3);
 }
 
 // The same of a hexagon: six vertices, or twelve.
 pub fn lay_hexagon(
+    t: Stand,
     how: Inset,
     h: InsetHexagon,
     at: Counts,
@@ -287,8 +334,8 @@ pub fn lay_hexagon(
     uvs: &mut [f32],
     indices: &mut [u16],
 ) -> bool
-    ensures room { λ r. ⌜ r ≡ fits at (sizeOf (hexagonMesh how h)) (four (now (vertices .entry)) (now (normals .entry)) (now (uvs .entry)) (now (indices .entry))) ⌝ }
-    ensures buffers { λ _. ⌜ four (now (vertices .exit)) (now (normals .exit)) (now (uvs .exit)) (now (indices .exit)) ≡ laidIfFits (hexagonMesh how h) at (four (now (vertices .entry)) (now (normals .entry)) (now (uvs .entry)) (now (indices .entry))) ⌝ }
+    ensures room { λ r. ⌜ r ≡ fits at (sizeOf (standing t (hexagonMesh how h))) (entering vertices normals uvs indices) ⌝ }
+    ensures buffers { λ _. ⌜ become (laidIfFits (standing t (hexagonMesh how h)) at) vertices normals uvs indices ⌝ }
 {
     let size = face::triangle::hexagon_counts(how);
     if has_room(
@@ -299,101 +346,7 @@ pub fn lay_hexagon(
         uvs.len(),
         indices.len(),
     ) {
-        put_hexagon(how, h, at, vertices, normals, uvs, indices);
-        return true;
-    }
-    false
-}
-
-fn put_plain_quad(
-    q: Quad,
-    at: Counts,
-    vertices: &mut [f32],
-    normals: &mut [f32],
-    uvs: &mut [f32],
-    indices: &mut [u16],
-)
-    requires { ⌜ fits at (insetCounts None 4 2) (four (now vertices) (now normals) (now uvs) (now indices)) ≡ true ⌝ }
-    ensures { λ _. ⌜ four (now (vertices .exit)) (now (normals .exit)) (now (uvs .exit)) (now (indices .exit)) ≡ lay (plainQuadMesh q) at (four (now (vertices .entry)) (now (normals .entry)) (now (uvs .entry)) (now (indices .entry))) ⌝ }
-{
-    let b = at.vertices.0;
-    let ps = q.positions;
-    let ts = q.uvs;
-    put_four(vertices, 3 * b, ps);
-    put_normals(normals, 3 * b, q.normal, 4);
-    put_four_uvs(uvs, 2 * b, ts);
-    put_quad_triangles(indices, at.indices.0, Inset::None, b, 2);
-}
-
-// A quad without an inset, as it is: the same as `lay_quad` of it at `Inset::None`.
-pub fn lay_plain_quad(
-    q: Quad,
-    at: Counts,
-    vertices: &mut [f32],
-    normals: &mut [f32],
-    uvs: &mut [f32],
-    indices: &mut [u16],
-) -> bool
-    ensures room { λ r. ⌜ r ≡ fits at (sizeOf (plainQuadMesh q)) (four (now (vertices .entry)) (now (normals .entry)) (now (uvs .entry)) (now (indices .entry))) ⌝ }
-    ensures buffers { λ _. ⌜ four (now (vertices .exit)) (now (normals .exit)) (now (uvs .exit)) (now (indices .exit)) ≡ laidIfFits (plainQuadMesh q) at (four (now (vertices .entry)) (now (normals .entry)) (now (uvs .entry)) (now (indices .entry))) ⌝ }
-{
-    let size = face::triangle::quad_counts(Inset::None);
-    if has_room(
-        at,
-        size,
-        vertices.len(),
-        normals.len(),
-        uvs.len(),
-        indices.len(),
-    ) {
-        put_plain_quad(q, at, vertices, normals, uvs, indices);
-        return true;
-    }
-    false
-}
-
-fn put_plain_hexagon(
-    h: Hexagon,
-    at: Counts,
-    vertices: &mut [f32],
-    normals: &mut [f32],
-    uvs: &mut [f32],
-    indices: &mut [u16],
-)
-    requires { ⌜ fits at (insetCounts None 6 4) (four (now vertices) (now normals) (now uvs) (now indices)) ≡ true ⌝ }
-    ensures { λ _. ⌜ four (now (vertices .exit)) (now (normals .exit)) (now (uvs .exit)) (now (indices .exit)) ≡ lay (plainHexagonMesh h) at (four (now (vertices .entry)) (now (normals .entry)) (now (uvs .entry)) (now (indices .entry))) ⌝ }
-{
-    let b = at.vertices.0;
-    let ps = h.positions;
-    let ts = h.uvs;
-    put_six(vertices, 3 * b, ps);
-    put_normals(normals, 3 * b, h.normal, 6);
-    put_six_uvs(uvs, 2 * b, ts);
-    put_hexagon_triangles(indices, at.indices.0, Inset::None, b, 4);
-}
-
-// The same of a hexagon.
-pub fn lay_plain_hexagon(
-    h: Hexagon,
-    at: Counts,
-    vertices: &mut [f32],
-    normals: &mut [f32],
-    uvs: &mut [f32],
-    indices: &mut [u16],
-) -> bool
-    ensures room { λ r. ⌜ r ≡ fits at (sizeOf (plainHexagonMesh h)) (four (now (vertices .entry)) (now (normals .entry)) (now (uvs .entry)) (now (indices .entry))) ⌝ }
-    ensures buffers { λ _. ⌜ four (now (vertices .exit)) (now (normals .exit)) (now (uvs .exit)) (now (indices .exit)) ≡ laidIfFits (plainHexagonMesh h) at (four (now (vertices .entry)) (now (normals .entry)) (now (uvs .entry)) (now (indices .entry))) ⌝ }
-{
-    let size = face::triangle::hexagon_counts(Inset::None);
-    if has_room(
-        at,
-        size,
-        vertices.len(),
-        normals.len(),
-        uvs.len(),
-        indices.len(),
-    ) {
-        put_plain_hexagon(h, at, vertices, normals, uvs, indices);
+        put_hexagon(t, how, h, at, vertices, normals, uvs, indices);
         return true;
     }
     false

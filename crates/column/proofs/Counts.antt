@@ -1,69 +1,69 @@
 -- A column's counts are the sums over its faces, with no walk over the parts. Assumes nothing.
 use mathlib.Core.Path.{_≡_, refl, sym, ap, ap₂, _∙_}
-use mathlib.Core.List.{List, [], _∷_, _++_, map, map-append}
+use mathlib.Core.List.{List, [], _∷_, _++_, map}
 use mathlib.Core.Bool.{Bool, true, false}
 use Prim.Native.Nat.{ℕ, zero, suc, _+_, _*_, _≤_}
 use native.Mathlib.Nat.{mul-le-mul}
 use lib.Ieee.{Float}
 use native.Mathlib.Omega.{arith}
+use Rattle.face.specs.declared.face.Quad.{Quad}
 use Rattle.face.specs.declared.inset.Inset.{Inset}
-use Rattle.face.specs.declared.inset.InsetQuad.{InsetQuad}
 use Rattle.face.specs.declared.triangle.Counts.{Counts}
 use Rattle.face.specs.Lists.{each, chain}
+use Rattle.face.specs.Face.{alteredQuad}
+use Rattle.face.specs.Inset.{insetQuadOf}
 use Rattle.face.specs.Triangles.{counts, insetCounts, quadTriangles, hexagonTriangles}
 use Rattle.answer.specs.declared.answer.Refusal.the-variants.{Shape, Range}
 use Rattle.answer.specs.declared.answer.Answer.the-variants.{Refused}
 use Rattle.answer.specs.Answers.{given, limited}
+use Rattle.placement.specs.declared.options.Choice.{Choice}
+use Rattle.placement.specs.declared.options.Choice.the-variants as option
+use Rattle.placement.specs.declared.options.FaceOptions.{FaceOptions}
+use Rattle.placement.specs.declared.placement.Stand.{Stand}
+use Rattle.placement.specs.Options.{optionAt, optionFor}
 use Rattle.buffers.specs.Mesh.{Mesh, also, sizeOf, measure}
-use Rattle.buffers.specs.Faces.{quadMesh}
-use Rattle.buffers.proofs.Joined.{measure-append}
+use Rattle.buffers.specs.Faces.{quadMesh, hexagonMesh, wallMesh}
 use Rattle.buffers.proofs.Windows.{also-none}
-use Rattle.buffers.proofs.Faces.{quad-size, hexagon-size, counted}
-use Rattle.placement.specs.Options.{optionAt}
-use Rattle.column.specs.declared.Choice.{Choice}
-use Rattle.column.specs.declared.Choice.the-variants as option
+use Rattle.buffers.proofs.Faces.{quad-size, hexagon-size, standing-size, counted}
+use Rattle.buffers.proofs.Faces.{map-each}
+use Rattle.buffers.proofs.Named.{measure-map, chain-sum}
+use Rattle.plane_builder.specs.Cap.{capHexagon, capMesh}
 use Rattle.column.specs.declared.Side.{Side}
 use Rattle.column.specs.declared.Column.{Column}
 use Rattle.column.specs.declared.Name.{Name}
 use Rattle.column.specs.declared.Name.the-variants.{OfSide, Top, Bottom}
-use Rattle.column.specs.Column.{Lists, partsOf, sideAt, capNames, partNames, sideNames, columnNames, optionFor, meshOf, columnFaces, many, summed, sideCounts, capCounts, sidesCounts, columnCounts, shapeOf, rangeOf, planned}
-
-pub map-each : {N P : Type 0} (g : ℕ → N) (f : N → P) (n : ℕ) → map f (each g n) ≡ each (λ k. f (g k)) n
-map-each g f zero = refl
-map-each g f (suc n) = map-append f (each g n) (g n ∷ []) ∙ ap (λ l. l ++ (f (g n) ∷ [])) (map-each g f n)
+use Rattle.column.specs.Column.{Lists, partsOf, sideAt, capNames, partNames, sideNames, columnNames, partQuad, wallStand, topStand, bottomStand, meshOf, columnFaces, many, sideCounts, capCounts, sidesCounts, columnCounts, shapeOf, rangeOf, planned}
 
 -- ---- faces of one size, counted at once
-module _ {N : Type 0} (f : N → Mesh) where
-  pub measure-map : (xs ys : List N) → measure (map f (xs ++ ys)) ≡ also (measure (map f xs)) (measure (map f ys))
-  measure-map xs ys = ap measure (map-append f xs ys) ∙ measure-append (map f xs) (map f ys)
-
-  pub each-same : (g : ℕ → N) (c : Counts) → ((k : ℕ) → sizeOf (f (g k)) ≡ c) → (n : ℕ) → measure (map f (each g n)) ≡ many n c
-  each-same g c h zero = ap₂ counts (omega arith) (omega arith)
-  each-same g c h (suc n) =
-      measure-map (each g n) (g n ∷ [])
-      ∙ ap₂ also (each-same g c h n) (also-none (sizeOf (f (g n))) ∙ h n)
-      ∙ ap₂ counts (omega arith) (omega arith)
-
-  chain-sum : (g : ℕ → List N) (c : ℕ → Counts) → ((d : ℕ) → measure (map f (g d)) ≡ c d) → (n : ℕ) → measure (map f (chain g n)) ≡ summed c n
-  chain-sum g c h zero = refl
-  chain-sum g c h (suc n) = measure-map (chain g n) (g n) ∙ ap₂ also (chain-sum g c h n) (h n)
+pub each-same : {N : Type 0} (f : N → Mesh) (g : ℕ → N) (c : Counts) → ((k : ℕ) → sizeOf (f (g k)) ≡ c) → (n : ℕ) → measure (map f (each g n)) ≡ many n c
+each-same f g c h zero = ap₂ counts (omega arith) (omega arith)
+each-same f g c h (suc n) =
+    measure-map f (each g n) (g n ∷ [])
+    ∙ ap₂ also (each-same f g c h n) (also-none (sizeOf (f (g n))) ∙ h n)
+    ∙ ap₂ counts (omega arith) (omega arith)
 
 each-sum : (g : ℕ → Mesh) (c : Counts) → ((k : ℕ) → sizeOf (g k) ≡ c) → (n : ℕ) → measure (each g n) ≡ many n c
 each-sum g c h n = ap measure (sym (map-each (λ k. k) g n)) ∙ each-same g (λ k. k) c h n
+
+pub wall-size : (t : Stand) (how : Inset) (q : Quad) → sizeOf (wallMesh t how q) ≡ insetCounts how 4 2
+wall-size t how q = standing-size t (quadMesh how (insetQuadOf how q)) ∙ quad-size how (insetQuadOf how q)
+
+cap-size : (t : Stand) (l : List Float) (o : FaceOptions) → sizeOf (capMesh t l o) ≡ insetCounts (o .inset) 6 4
+cap-size t l o = standing-size t (hexagonMesh (o .inset) (capHexagon l o)) ∙ hexagon-size (o .inset) (capHexagon l o)
 
 -- ---- a side's parts, and a cap
 module _ (job : Column) (ls : Lists) where
   pub part-size : (d p : ℕ) → sizeOf (meshOf job ls (OfSide d p)) ≡ insetCounts (optionFor (ls .numbers) (ls .marks) (sideAt (job .sides) d) .inset) 4 2
   unfolding meshOf
-  part-size d p = quad-size _ _
+  part-size d p = let o = optionFor (ls .numbers) (ls .marks) (sideAt (job .sides) d) in wall-size (wallStand job) (o .inset) (alteredQuad (o .uv) (partQuad job (ls .pairs) d p))
 
   pub top-size : sizeOf (meshOf job ls Top) ≡ insetCounts (optionFor (ls .numbers) (ls .marks) (job .top) .inset) 6 4
   unfolding meshOf
-  top-size = hexagon-size _ _
+  top-size = cap-size (topStand job) (ls .corners) (optionFor (ls .numbers) (ls .marks) (job .top))
 
   pub bottom-size : sizeOf (meshOf job ls Bottom) ≡ insetCounts (optionFor (ls .numbers) (ls .marks) (job .bottom) .inset) 6 4
   unfolding meshOf
-  bottom-size = hexagon-size _ _
+  bottom-size = cap-size (bottomStand job) (ls .corners) (optionFor (ls .numbers) (ls .marks) (job .bottom))
 
   pub side-sum : (d : ℕ) → measure (map (meshOf job ls) (sideNames job d)) ≡ sideCounts (ls .numbers) (ls .marks) (partsOf (job .subdivisions)) (sideAt (job .sides) d)
   side-sum d = go (sideAt (job .sides) d) (part-size d)
@@ -108,8 +108,8 @@ many-most s how h =
     (omega (arith, a), omega (arith, b))
 
 -- the parts of one side laid so far
-pub each-most : (how : Inset) (g : ℕ → InsetQuad) (n : ℕ) → n ≤ 4294967295 → AtMost 137438953472 (measure (each (λ k. quadMesh how (g k)) n))
-each-most how g n h = rw (each-sum (λ k. quadMesh how (g k)) (insetCounts how 4 2) (λ k. quad-size how (g k)) n) (many-most n how h)
+pub each-most : (how : Inset) (g : ℕ → Mesh) → ((k : ℕ) → sizeOf (g k) ≡ insetCounts how 4 2) → (n : ℕ) → n ≤ 4294967295 → AtMost 137438953472 (measure (each g n))
+each-most how g e n h = rw (each-sum g (insetCounts how 4 2) e n) (many-most n how h)
 
 pub side-most : (ns : List Float) (ms : List ℕ) (s : ℕ) (c : Choice) → s ≤ 4294967295 → AtMost 137438953472 (sideCounts ns ms s c)
 side-most ns ms s option.Absent h = (omega arith, omega arith)

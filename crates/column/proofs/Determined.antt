@@ -4,17 +4,22 @@ use mathlib.Core.List.{List}
 use Prim.Native.Nat.{ℕ}
 use lib.Ieee.{Float}
 use lib.ListN.{length}
+use Rattle.face.specs.declared.face.Quad.{Quad}
 use Rattle.face.specs.declared.triangle.Counts.{Counts}
 use Rattle.answer.specs.declared.answer.Answer.{Answer}
 use Rattle.answer.proofs.Determined.{determined}
-use Rattle.placement.specs.declared.options.FaceOptions.{FaceOptions}
+use Rattle.placement.specs.declared.options.Choice.{Choice}
+use Rattle.placement.specs.declared.placement.Stand.{Stand}
+use Rattle.placement.specs.Options.{optionFor}
 use Rattle.column.specs.declared.Subdivisions.{Subdivisions}
-use Rattle.column.specs.declared.Choice.{Choice}
 use Rattle.column.specs.declared.Side.{Side}
 use Rattle.column.specs.declared.Column.{Column}
 use Rattle.column.specs.declared.Name.{Name}
-use Rattle.column.specs.Column.{Lists, partsOf, delta, sideAt, columnNames, optionFor, sideCounts, capCounts, planned}
-use Rattle.column.specs.Names.{nameAt, startBy}
+use Rattle.column.specs.Column.{Lists, partsOf, delta, sideAt, columnNames, topStand, bottomStand, sideCounts, capCounts, planned}
+use Rattle.column.specs.declared.names.Piece.{Piece}
+use Rattle.column.specs.declared.wall.Wall.{Wall}
+use Rattle.column.specs.Names.{nameAt, sideFaces, pieceOf, startBy}
+use Rattle.column.specs.Wall.{wallOf, partAt}
 
 pub plan-determined : (job : Column) (ls : Lists) (x y : Answer) → x ≡ planned job ls → y ≡ planned job ls → x ≡ y
 plan-determined job ls x y p q = determined p q
@@ -29,8 +34,9 @@ pub side-option-determined : (ss : List Side) (d : ℕ) (x y : Choice) → x ≡
 side-option-determined ss d x y p q = determined p q
 
 module _ (ns : List Float) (ms : List ℕ) where
-  pub option-for-determined : (c : Choice) (x y : FaceOptions) → x ≡ optionFor ns ms c → y ≡ optionFor ns ms c → x ≡ y
-  option-for-determined c x y p q = determined p q
+  pub wall-of-determined : (job : Column) (d : ℕ) (ps : List Float) (x y : Wall)
+      → x ≡ wallOf job ps (optionFor ns ms (sideAt (job .sides) d)) d → y ≡ wallOf job ps (optionFor ns ms (sideAt (job .sides) d)) d → x ≡ y
+  wall-of-determined job d ps x y p q = determined p q
 
   pub side-counts-determined : (s : ℕ) (c : Choice) (x y : Counts) → x ≡ sideCounts ns ms s c → y ≡ sideCounts ns ms s c → x ≡ y
   side-counts-determined s c x y p q = determined p q
@@ -46,3 +52,18 @@ face-count-determined job x y p q = determined p q
 
 pub name-of-determined : (job : Column) (k : ℕ) (x y : Name) → x ≡ nameAt job k → y ≡ nameAt job k → x ≡ y
 name-of-determined job k x y p q = determined p q
+
+pub side-faces-determined : (c : Choice) (s : ℕ) (x y : ℕ) → x ≡ sideFaces c s → y ≡ sideFaces c s → x ≡ y
+side-faces-determined c s x y p q = determined p q
+
+pub part-at-determined : (w : Wall) (n : ℕ) (x y : Quad) → x ≡ partAt w n → y ≡ partAt w n → x ≡ y
+part-at-determined w n x y p q = determined p q
+
+pub top-stand-determined : (job : Column) (x y : Stand) → x ≡ topStand job → y ≡ topStand job → x ≡ y
+top-stand-determined job x y p q = determined p q
+
+pub bottom-stand-determined : (job : Column) (x y : Stand) → x ≡ bottomStand job → y ≡ bottomStand job → x ≡ y
+bottom-stand-determined job x y p q = determined p q
+
+pub piece-of-determined : (job : Column) (n : Name) (x y : Piece) → x ≡ pieceOf job n → y ≡ pieceOf job n → x ≡ y
+piece-of-determined job n x y p q = determined p q

@@ -1,35 +1,34 @@
 -- Which face has a number, and what lies before it. Assumes nothing.
 use mathlib.Core.Path.{_≡_, refl, sym, ap, ap₂, subst, _∙_}
-use mathlib.Core.Bool.{Bool, true, false, not}
-use mathlib.Core.List.{List, [], _∷_, _++_, map, append-assoc, append-nil}
+use mathlib.Core.Bool.{Bool, true, false, not, cond}
+use mathlib.Core.List.{List, [], _∷_, _++_, map}
 use Prim.Native.Nat.{ℕ, zero, suc, _+_, _-_, _≤_, _<_}
 use native.Mathlib.Nat.{suc-ne-zero}
 use native.Mathlib.Omega.{arith}
 use borrow.Author.Tests.{ne-eqb}
 use lib.Dec.{T, ltb, ltb→lt, nltb→le}
-use lib.ListN.{length, getD, length-append, List·getD-eq-default}
-use lib.Seq.{getD-at}
-use Rattle.face.specs.Lists.{pick, each, chain}
+use lib.ListN.{length, length-append, List·getD-eq-default}
+use Rattle.face.specs.Lists.{each, chain}
 use Rattle.face.specs.Triangles.{insetCounts}
 use Rattle.face.proofs.Filling.{length-each}
-use Rattle.buffers.specs.Mesh.{also, measure}
-use Rattle.column.specs.declared.Choice.{Choice}
-use Rattle.column.specs.declared.Choice.the-variants as option
+use Rattle.placement.specs.declared.options.Choice.{Choice}
+use Rattle.placement.specs.declared.options.Choice.the-variants as option
+use Rattle.placement.specs.Options.{optionFor}
+use Rattle.buffers.specs.Mesh.{also, startOf}
+use Rattle.buffers.proofs.Windows.{also-none}
+use Rattle.buffers.proofs.Named as named
 use Rattle.column.specs.declared.Side.{Side}
 use Rattle.column.specs.declared.Column.{Column}
 use Rattle.column.specs.declared.Name.{Name}
 use Rattle.column.specs.declared.Name.the-variants.{OfSide, Top, Bottom}
-use Rattle.column.specs.Column.{Lists, partsOf, sideAt, partNames, sideNames, capNames, columnNames, optionFor, meshOf}
+use Rattle.column.specs.Column.{Lists, partsOf, sideAt, partNames, sideNames, capNames, columnNames, meshOf, columnFaces}
 use Rattle.column.specs.Names.{nameAt, sideFaces, capName, startBy}
-use Rattle.column.proofs.Counts.{measure-map, each-same, part-size, sides-sum, cap-sum, top-size}
+use Rattle.column.proofs.Counts.{each-same, part-size, sides-sum, cap-sum, top-size}
 
 -- a name stands at a number of the list of names, and starts where what lies before it ends
 pub record Stands (job : Column) (k : ℕ) (n : Name) : Type 0 where
-  pub before : List Name
-  pub rest : List Name
-  pub all : columnNames job ≡ before ++ (n ∷ rest)
-  pub number : length before ≡ k
-  pub start : (ls : Lists) → measure (map (meshOf job ls) before) ≡ startBy job (ls .numbers) (ls .marks) n
+  pub named : named.Stands (columnNames job) k n
+  pub start : (ls : Lists) → startOf (columnFaces job ls) k ≡ startBy job (ls .numbers) (ls .marks) n
 
 below-or-not : {A : Type 0} (m n : ℕ) → (m < n → A) → (n ≤ m → A) → A
 below-or-not {A} m n f g = go (ltb m n) (ltb→lt m n) (nltb→le m n)
@@ -37,32 +36,6 @@ below-or-not {A} m n f g = go (ltb m n) (ltb→lt m n) (nltb→le m n)
     go : (x : Bool) → (T x → m < n) → (T (not x) → n ≤ m) → A
     go true l h = f (l tt)
     go false l h = g (h tt)
-
--- ---- a chain taken apart
-module _ {A : Type 0} where
-  -- g d and what follows it, m lists in all
-  abbrev following : (ℕ → List A) → ℕ → ℕ → List A
-  following g d zero = []
-  following g d (suc m) = g d ++ following g (suc d) m
-
-  chain-split : (g : ℕ → List A) (d m : ℕ) → chain g (d + m) ≡ chain g d ++ following g d m
-  chain-split g d zero = ap (chain g) (let e : d + 0 ≡ d = omega arith in e) ∙ sym (append-nil (chain g d))
-  chain-split g d (suc m) =
-      ap (chain g) (let e : d + suc m ≡ suc d + m = omega arith in e)
-      ∙ chain-split g (suc d) m
-      ∙ append-assoc (chain g d) (g d) (following g (suc d) m)
-
-  each-chain : (g : ℕ → A) (n : ℕ) → each g n ≡ chain (λ k. g k ∷ []) n
-  each-chain g zero = refl
-  each-chain g (suc n) = ap (λ (l : List A). l ++ (g n ∷ [])) (each-chain g n)
-
-  -- before one of them and after it
-  each-split : (g : ℕ → A) (j n : ℕ) → j < n → each g n ≡ each g j ++ (g j ∷ following (λ k. g k ∷ []) (suc j) (n - suc j))
-  each-split g j n h =
-      ap (each g) (let e : n ≡ j + suc (n - suc j) = omega arith in e)
-      ∙ each-chain g (j + suc (n - suc j))
-      ∙ chain-split (λ k. g k ∷ []) j (suc (n - suc j))
-      ∙ ap (λ (l : List A). l ++ (g j ∷ following (λ k. g k ∷ []) (suc j) (n - suc j))) (sym (each-chain g j))
 
 -- ---- how many there are
 abbrev pub walls : List Side → ℕ → ℕ → List Name
@@ -99,59 +72,63 @@ module _ (job : Column) where
   abbrev s : ℕ
   s = partsOf (job .subdivisions)
 
+  abbrev walls-of : List Name
+  walls-of = chain (sideNames job) 6
+
+  abbrev caps : List Name
+  caps = capNames (job .top) Top ++ capNames (job .bottom) Bottom
+
   pub stands-part : (k d j : ℕ) → d < 6 → j < sideFaces (sideAt (job .sides) d) s → k ≡ length (chain (sideNames job) d) + j → Stands job k (OfSide d j)
   unfolding columnNames
   stands-part k d j h l e =
       let p = part-there (sideAt (job .sides) d) s j d l in
-      let caps : List Name = capNames (job .top) Top ++ capNames (job .bottom) Bottom in
-      let more : List Name = following (λ i. OfSide d i ∷ []) (suc j) (s - suc j) in
-      let rest : List Name = following (sideNames job) (suc d) (6 - suc d) in
-      let side : sideNames job d ≡ each (OfSide d) j ++ (OfSide d j ∷ more) = p .1 ∙ each-split (OfSide d) j s (p .0) in
+      let m : j < length (sideNames job d) = rw (side-length (sideAt (job .sides) d) s d) l in
+      let here : named.Stands walls-of (length (chain (sideNames job) d) + j) (OfSide d j) =
+      named.stands-chain (sideNames job) 6 d j (OfSide d j) h (subst (λ (x : List Name). named.Stands x j (OfSide d j)) (sym (p .1)) (named.stands-each (OfSide d) s j (p .0))) in
+      let least : length (chain (sideNames job) d) + j < length walls-of = named.stands-below walls-of (length (chain (sideNames job) d) + j) (OfSide d j) here in
+      subst (λ (i : ℕ). Stands job i (OfSide d j))
+      (sym e)
       record {
-        before = chain (sideNames job) d ++ each (OfSide d) j;
-        rest = (more ++ rest) ++ caps;
-        all =
-            ap (λ (l : List Name). l ++ caps)
-            (ap (chain (sideNames job)) (let e : 6 ≡ d + suc (6 - suc d) = omega arith in e)
-            ∙ chain-split (sideNames job) d (suc (6 - suc d))
-            ∙ ap (λ (l : List Name). chain (sideNames job) d ++ (l ++ rest)) side
-            ∙ ap (λ (l : List Name). chain (sideNames job) d ++ l) (append-assoc (each (OfSide d) j) (OfSide d j ∷ more) rest)
-            ∙ sym (append-assoc (chain (sideNames job) d) (each (OfSide d) j) (OfSide d j ∷ (more ++ rest))))
-            ∙ append-assoc (chain (sideNames job) d ++ each (OfSide d) j) (OfSide d j ∷ (more ++ rest)) caps;
-        number = length-append (chain (sideNames job) d) (each (OfSide d) j) ∙ ap (λ (n : ℕ). length (chain (sideNames job) d) + n) (length-each (OfSide d) j) ∙ sym e;
+        named = named.stands-left walls-of caps (length (chain (sideNames job) d) + j) (OfSide d j) here;
         start = λ ls.
-            measure-map (meshOf job ls) (chain (sideNames job) d) (each (OfSide d) j)
-            ∙ ap₂ also (sides-sum job ls d) (each-same (meshOf job ls) (OfSide d) (insetCounts (optionFor (ls .numbers) (ls .marks) (sideAt (job .sides) d) .inset) 4 2) (part-size job ls d) j);
+            named.start-left (meshOf job ls) walls-of caps (length (chain (sideNames job) d) + j) least
+            ∙ named.chain-start (meshOf job ls) (sideNames job) 6 d j h m
+            ∙ ap₂ also
+            (sides-sum job ls d)
+            (ap (λ (x : List Name). startOf (map (meshOf job ls) x) j) (p .1)
+            ∙ named.each-start (meshOf job ls) (OfSide d) s j (p .0)
+            ∙ each-same (meshOf job ls) (OfSide d) (insetCounts (optionFor (ls .numbers) (ls .marks) (sideAt (job .sides) d) .inset) 4 2) (part-size job ls d) j);
       }
 
   -- ---- the caps
-  pub stands-top : (k x : ℕ) → job .top ≡ option.With x → k ≡ length (chain (sideNames job) 6) → Stands job k Top
+  pub stands-top : (k x : ℕ) → job .top ≡ option.With x → k ≡ length walls-of → Stands job k Top
   unfolding columnNames
   stands-top k x t e =
+      let there : caps ≡ Top ∷ capNames (job .bottom) Bottom = ap (λ (c : Choice). capNames c Top ++ capNames (job .bottom) Bottom) t in
+      subst (λ (i : ℕ). Stands job i Top)
+      (let i : length walls-of + 0 ≡ k = omega (arith, e) in i)
       record {
-        before = chain (sideNames job) 6;
-        rest = capNames (job .bottom) Bottom;
-        all = ap (λ (c : Choice). chain (sideNames job) 6 ++ (capNames c Top ++ capNames (job .bottom) Bottom)) t;
-        number = sym e;
-        start = λ ls. sides-sum job ls 6;
+        named = named.stands-right walls-of caps 0 Top (subst (λ (x : List Name). named.Stands x 0 Top) (sym there) (named.stands-first Top (capNames (job .bottom) Bottom)));
+        start = λ ls. named.start-right (meshOf job ls) walls-of caps 0 ∙ also-none _ ∙ sides-sum job ls 6;
       }
 
   only : (c : Choice) (j : ℕ) → j < sideFaces c 1 → (capNames c Bottom ≡ Bottom ∷ []) × (j ≡ 0)
   only option.Absent j h = let g : j < 0 = h in absurd (omega arith)
   only (option.With x) j h = let g : j < 1 = h in (refl, omega arith)
 
-  pub stands-bottom : (k j : ℕ) → j < sideFaces (job .bottom) 1 → k ≡ length (chain (sideNames job) 6) + (sideFaces (job .top) 1 + j) → Stands job k Bottom
+  pub stands-bottom : (k j : ℕ) → j < sideFaces (job .bottom) 1 → k ≡ length walls-of + (sideFaces (job .top) 1 + j) → Stands job k Bottom
   unfolding columnNames
   stands-bottom k j h e =
       let o = only (job .bottom) j h in
-      let sides : List Name = chain (sideNames job) 6 in
-      let top : List Name = capNames (job .top) Top in
+      let tops : List Name = capNames (job .top) Top in
+      let bottoms : List Name = capNames (job .bottom) Bottom in
+      subst (λ (i : ℕ). Stands job i Bottom)
+      (let i : length walls-of + (length tops + 0) ≡ k = omega (arith, cap-length (job .top) Top, o .1, e) in i)
       record {
-        before = sides ++ top;
-        rest = [];
-        all = ap (λ (l : List Name). sides ++ (top ++ l)) (o .0) ∙ sym (append-assoc sides top (Bottom ∷ []));
-        number = length-append sides top ∙ ap (λ (n : ℕ). length sides + n) (cap-length (job .top) Top) ∙ (let n : length sides + sideFaces (job .top) 1 ≡ k = omega (arith, o .1, e) in n);
-        start = λ ls. measure-map (meshOf job ls) sides top ∙ ap₂ also (sides-sum job ls 6) (cap-sum job ls (job .top) Top (top-size job ls));
+        named = named.stands-right walls-of caps (length tops + 0) Bottom (named.stands-right tops bottoms 0 Bottom (subst (λ (x : List Name). named.Stands x 0 Bottom) (sym (o .0)) (named.stands-first Bottom [])));
+        start = λ ls.
+            named.start-right (meshOf job ls) walls-of caps (length tops + 0)
+            ∙ ap₂ also (sides-sum job ls 6) (named.start-right (meshOf job ls) tops bottoms 0 ∙ also-none _ ∙ cap-sum job ls (job .top) Top (top-size job ls));
       }
 
   -- what is left after the sides
@@ -165,11 +142,11 @@ module _ (job : Column) where
       go (option.With i) p zero f l = stands-top k i p (omega (arith, f))
       go (option.With i) p (suc x) f l =
           let z : sideFaces (job .top) 1 ≡ 1 = ap (λ (c : Choice). sideFaces c 1) p in
-          subst (λ (b : Bool). Stands job k (pick b Top Bottom)) (sym (ne-eqb (suc x) 0 (suc-ne-zero x))) (stands-bottom k x (omega (arith, l, z)) (omega (arith, f, z)))
+          subst (λ (b : Bool). Stands job k (cond b Top Bottom)) (sym (ne-eqb (suc x) 0 (suc-ne-zero x))) (stands-bottom k x (omega (arith, l, z)) (omega (arith, f, z)))
 
   -- ---- every number of a face stands for its name
   pub stands-name : (k : ℕ) (n : Name) → Stands job k n → nameAt job k ≡ n
-  stands-name k n t = ap (λ (l : List Name). getD l k Bottom) (t .all) ∙ getD-at (t .before) n (t .rest) Bottom k (t .number)
+  stands-name k n t = named.stands-name (columnNames job) k n Bottom (t .named)
 
   its-name : (k : ℕ) (n : Name) → Stands job k n → Stands job k (nameAt job k)
   its-name k n t = subst (λ (x : Name). Stands job k x) (sym (stands-name k n t)) t
@@ -194,4 +171,4 @@ module _ (job : Column) where
     where
       past : (t : Choice) (x : ℕ) → sideFaces t 1 ≤ x → capName t x ≡ Bottom
       past option.Absent x h = refl
-      past (option.With i) x h = ap (λ (b : Bool). pick b Top Bottom) (ne-eqb x 0 (λ z. absurd (omega (arith, h, z))))
+      past (option.With i) x h = ap (λ (b : Bool). cond b Top Bottom) (ne-eqb x 0 (λ z. absurd (omega (arith, h, z))))

@@ -1,2 +1,3 @@
 pub mod Column
 pub mod Names
+pub mod Wall

@@ -1,19 +1,22 @@
 -- Which face a number is, and where it starts, without a walk over the parts; B2 and R16 are rows of docs/TRACE.md. Definitions only.
+use mathlib.Core.Bool.{cond}
 use mathlib.Core.List.{List}
 use Prim.Native.Nat.{ℕ}
 use lib.ListN.{getD}
 use lib.Dec.{eqb}
 use lib.Ieee.{Float}
 use Rattle.face.specs.declared.triangle.Counts.{Counts}
-use Rattle.face.specs.Lists.{pick}
 use Rattle.face.specs.Triangles.{insetCounts}
+use Rattle.placement.specs.declared.options.Choice.{Choice}
+use Rattle.placement.specs.declared.options.Choice.the-variants as option
+use Rattle.placement.specs.Options.{optionFor}
 use Rattle.buffers.specs.Mesh.{also}
-use Rattle.column.specs.declared.Choice.{Choice}
-use Rattle.column.specs.declared.Choice.the-variants as option
 use Rattle.column.specs.declared.Column.{Column}
 use Rattle.column.specs.declared.Name.{Name}
 use Rattle.column.specs.declared.Name.the-variants.{OfSide, Top, Bottom}
-use Rattle.column.specs.Column.{partsOf, sideAt, optionFor, columnNames, many, capCounts, sidesCounts}
+use Rattle.column.specs.declared.names.Piece.{Piece}
+use Rattle.column.specs.declared.names.Piece.the-variants.{Part, Cap}
+use Rattle.column.specs.Column.{partsOf, sideAt, columnNames, topStand, bottomStand, many, capCounts, sidesCounts}
 
 -- B2: the name of a number; past the last it is the bottom's
 abbrev pub nameAt : Column → ℕ → Name
@@ -27,7 +30,13 @@ sideFaces (option.With k) s = s
 -- after the sides: the top where there is one, then the bottom
 abbrev pub capName : Choice → ℕ → Name
 capName option.Absent x = Bottom
-capName (option.With k) x = pick (eqb x 0) Top Bottom
+capName (option.With k) x = cond (eqb x 0) Top Bottom
+
+-- what is laid of a face, whichever it is
+abbrev pub pieceOf : Column → Name → Piece
+pieceOf job (OfSide d p) = Part d p
+pieceOf job Top = Cap (topStand job) (job .top)
+pieceOf job Bottom = Cap (bottomStand job) (job .bottom)
 
 -- R16: what lies before a face, in closed form
 abbrev pub startBy : Column → List Float → List ℕ → Name → Counts

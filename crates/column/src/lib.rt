@@ -1,31 +1,28 @@
-// What a column is, after column_builder.rs of hexx: its job, its tests, its counts, and in names.rt the
-// numbers of its faces.
+// What a column is, after column_builder.rs of hexx: its job, its tests and its counts; in names.rt the numbers of its
+// faces, in wall.rt a side and in caps.rt where the caps stand. All by value.
+pub mod caps;
 pub mod names;
+pub mod wall;
 
 ghost use mathlib.Core.Path.{_≡_};
 ghost use mathlib.Core.List.{[]};
 ghost use Prim.Native.Nat.{_+_, _≤_, _<_, _^_};
 ghost use Rattle.answer.specs.Checks.{every};
+ghost use Rattle.placement.specs.Options.{choiceNames};
 ghost use Rattle.buffers.specs.Mesh.{none, also};
-ghost use Rattle.column.specs.Column.{partsOf, delta, choiceNames, allNamed, many, sideCounts, capCounts, sidesCounts, columnCounts, lists, sideAt, optionFor, shapeOf, placeOf, rangeOf, planned};
+ghost use Rattle.column.specs.Column.{partsOf, delta, allNamed, many, sideCounts, capCounts, sidesCounts, columnCounts, lists, lent, sideAt, shapeOf, placeOf, rangeOf, planned};
 use answer::answer::Answer;
 use answer::answer::Refusal;
 use face::triangle::Counts;
 use face::triangle::IndexPlace;
 use face::triangle::VertexNumber;
 use face::vec::Vec2;
-use placement::options::FaceOptions;
+use placement::options::Choice;
 use placement::placement::Placement;
 
 pub enum Subdivisions {
     Absent,
     Of(u32),
-}
-
-// The number of an option, or that the face is not there.
-pub enum Choice {
-    Absent,
-    With(u8),
 }
 
 pub struct Side {
@@ -71,15 +68,6 @@ pub fn delta_of(job: Column) -> f32
     job.height / std::num::nearest_u32_to_f32(parts_of(s))
 }
 
-fn choice_names(c: Choice, entries: usize) -> bool
-    ensures { λ r. ⌜ r ≡ choiceNames c entries ⌝ }
-{
-    match c {
-        Choice::Absent => true,
-        Choice::With(k) => answer::check::names_option(k, entries),
-    }
-}
-
 fn all_sides_named(sides: [Side; 6], entries: usize) -> bool
     ensures { λ r. ⌜ r ≡ every (λ x. choiceNames (x .option) entries) sides ⌝ }
 {
@@ -87,7 +75,7 @@ fn all_sides_named(sides: [Side; 6], entries: usize) -> bool
     while d < 6 {
         let s = sides[d];
         let o = s.option;
-        if choice_names(o, entries) {
+        if placement::options::choice_names(o, entries) {
             d += 1;
         } else {
             return false;
@@ -103,8 +91,8 @@ fn all_named(job: Column, entries: usize) -> bool
     let top = job.top;
     let bottom = job.bottom;
     if all_sides_named(sides, entries) {
-        if choice_names(top, entries) {
-            return choice_names(bottom, entries);
+        if placement::options::choice_names(top, entries) {
+            return placement::options::choice_names(bottom, entries);
         }
     }
     false
@@ -208,7 +196,7 @@ fn column_counts(job: Column, numbers: &[f32], marks: &[u8]) -> Counts
 }
 
 fn is_shape(job: Column, pairs: &[f32], corners: &[f32], numbers: &[f32], marks: &[u8]) -> bool
-    ensures { λ r. ⌜ r ≡ shapeOf job (lists (now (pairs .entry)) (now (corners .entry)) (now (numbers .entry)) (now (marks .entry))) ⌝ }
+    ensures { λ r. ⌜ r ≡ shapeOf job (lent pairs corners numbers marks) ⌝ }
 {
     if answer::check::is_exactly(pairs.len(), 6, 4) {
         if answer::check::is_exactly(corners.len(), 6, 2) {
@@ -247,7 +235,7 @@ fn is_in_range(job: Column, pairs: &[f32], corners: &[f32], numbers: &[f32]) -> 
 
 // The counts of the job, or why it is refused. The parts are not walked.
 pub fn plan(job: Column, pairs: &[f32], corners: &[f32], numbers: &[f32], marks: &[u8]) -> Answer
-    ensures { λ r. ⌜ r ≡ planned job (lists (now (pairs .entry)) (now (corners .entry)) (now (numbers .entry)) (now (marks .entry))) ⌝ }
+    ensures { λ r. ⌜ r ≡ planned job (lent pairs corners numbers marks) ⌝ }
 {
     if is_shape(job, pairs, corners, numbers, marks) {
         if is_in_range(job, pairs, corners, numbers) {
@@ -256,14 +244,4 @@ pub fn plan(job: Column, pairs: &[f32], corners: &[f32], numbers: &[f32], marks:
         return Answer::Refused(Refusal::Range);
     }
     Answer::Refused(Refusal::Shape)
-}
-
-// The option of a face; an absent one is never laid.
-pub fn option_for(c: Choice, numbers: &[f32], marks: &[u8]) -> FaceOptions
-    ensures { λ r. ⌜ r ≡ optionFor (now (numbers .entry)) (now (marks .entry)) c ⌝ }
-{
-    match c {
-        Choice::Absent => placement::options::option_at(numbers, marks, 255),
-        Choice::With(k) => placement::options::option_at(numbers, marks, k),
-    }
 }

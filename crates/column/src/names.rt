@@ -2,15 +2,18 @@
 ghost use mathlib.Core.Path.{_≡_};
 ghost use lib.ListN.{length};
 ghost use Rattle.column.specs.Column.{columnNames};
-ghost use Rattle.column.specs.Names.{nameAt, sideFaces, capName, startBy};
+ghost use Rattle.column.specs.Names.{nameAt, sideFaces, capName, pieceOf, startBy};
 use face::triangle::Counts;
+use placement::options::Choice;
+use placement::placement::Stand;
 
-fn side_faces(c: crate::Choice, s: u32) -> usize
+// How many faces a side has; a cap is a side of one part.
+pub fn side_faces(c: Choice, s: u32) -> usize
     ensures { λ r. ⌜ r ≡ sideFaces c s ⌝ }
 {
     match c {
-        crate::Choice::Absent => 0,
-        crate::Choice::With(_) => s as usize,
+        Choice::Absent => 0,
+        Choice::With(_) => s as usize,
     }
 }
 
@@ -31,12 +34,12 @@ pub fn face_count(job: crate::Column) -> usize
 }
 
 // After the sides come the top, where there is one, and the bottom.
-fn cap_name(top: crate::Choice, left: usize) -> crate::Name
+fn cap_name(top: Choice, left: usize) -> crate::Name
     ensures { λ r. ⌜ r ≡ capName top left ⌝ }
 {
     match top {
-        crate::Choice::Absent => crate::Name::Bottom,
-        crate::Choice::With(_) => {
+        Choice::Absent => crate::Name::Bottom,
+        Choice::With(_) => {
             if left == 0 {
                 return crate::Name::Top;
             }
@@ -64,6 +67,24 @@ pub fn name_of(job: crate::Column, number: usize) -> crate::Name
     cap_name(top, left)
 }
 
+// What is laid of a face: the part of a side by the numbers of both, or a cap by where it stands and its option.
+pub enum Piece {
+    Part(u8, u32),
+    Cap(Stand, Choice),
+}
+
+pub fn piece_of(job: crate::Column, name: crate::Name) -> Piece
+    ensures { λ r. ⌜ r ≡ pieceOf job name ⌝ }
+{
+    let top = job.top;
+    let bottom = job.bottom;
+    match name {
+        crate::Name::OfSide(d, p) => Piece::Part(d, p),
+        crate::Name::Top => Piece::Cap(crate::caps::top_stand(job), top),
+        crate::Name::Bottom => Piece::Cap(crate::caps::bottom_stand(job), bottom),
+    }
+}
+
 // Where a face starts: what lies before it, counted without a walk over the parts.
 pub fn start_of(job: crate::Column, name: crate::Name, numbers: &[f32], marks: &[u8]) -> Counts
     ensures { λ r. ⌜ r ≡ startBy job (now (numbers .entry)) (now (marks .entry)) name ⌝ }
@@ -74,7 +95,7 @@ pub fn start_of(job: crate::Column, name: crate::Name, numbers: &[f32], marks: &
     let parts = crate::parts_of(s);
     match name {
         crate::Name::OfSide(d, p) => {
-            let o = crate::option_for(crate::side_option(sides, d), numbers, marks);
+            let o = placement::options::option_for(crate::side_option(sides, d), numbers, marks);
             let inset = o.inset;
             let below = crate::times(p, face::triangle::quad_counts(inset));
             crate::add(crate::sides_counts(sides, d, parts, numbers, marks), below)

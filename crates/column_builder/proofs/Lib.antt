@@ -1,3 +1,4 @@
 pub mod Determined
+pub mod Laid
 pub mod Single
 pub mod Whole

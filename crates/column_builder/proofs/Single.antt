@@ -1,15 +1,14 @@
 -- The face of a number, laid at its place. Assumes nothing.
-use mathlib.Core.Path.{_≡_, sym, ap, ap₂, subst, _∙_}
+use mathlib.Core.Path.{_≡_, sym, ap, _∙_}
 use mathlib.Core.Bool.{true}
-use mathlib.Core.List.{List, _∷_, _++_, map, map-append}
 use Prim.Native.Nat.{ℕ, _<_}
 use native.Mathlib.Omega.{arith}
 use lib.ListN.{length, length-map}
 use Rattle.face.specs.declared.triangle.Counts.{Counts}
 use Rattle.answer.specs.declared.answer.Answer.the-variants.{Done}
-use Rattle.buffers.specs.Mesh.{Mesh, none, measure}
+use Rattle.buffers.specs.Mesh.{none, measure}
 use Rattle.buffers.specs.Laying.{Buffers, fits, layOne, laidIfFits}
-use Rattle.buffers.proofs.Each.{one-laid}
+use Rattle.buffers.proofs.Named as named
 use Rattle.mesh.proofs.Jobs.{face-room}
 use Rattle.column.specs.declared.Column.{Column}
 use Rattle.column.specs.declared.Name.{Name}
@@ -28,9 +27,4 @@ module _ (job : Column) (ls : Lists) where
 
   pub stands-laid : (k : ℕ) (n : Name) (B : Buffers) → Stands job k n → fits none (measure (columnFaces job ls)) B ≡ true
       → laidIfFits (meshOf job ls n) (startBy job (ls .numbers) (ls .marks) n) B ≡ layOne (columnFaces job ls) k none B
-  stands-laid k n B s e =
-      let f : Name → Mesh = meshOf job ls in
-      let all : columnFaces job ls ≡ map f (s .before) ++ (f n ∷ map f (s .rest)) = ap (map f) (s .all) ∙ map-append f (s .before) (n ∷ s .rest) in
-      ap (λ (c : Counts). laidIfFits (f n) c B) (sym (s .start ls))
-      ∙ one-laid (map f (s .before)) (f n) (map f (s .rest)) B (subst (λ (l : List Mesh). fits none (measure l) B ≡ true) all e)
-      ∙ ap₂ (λ (l : List Mesh) (i : ℕ). layOne l i none B) (sym all) (length-map (s .before) f ∙ s .number)
+  stands-laid k n B s e = ap (λ (c : Counts). laidIfFits (meshOf job ls n) c B) (sym (s .start ls)) ∙ named.stands-laid (meshOf job ls) (columnNames job) k n B (s .named) e

@@ -1,25 +1,33 @@
 -- What a done answer says of the room, and whose vertices a face names. Assumes nothing.
 use mathlib.Core.Path.{_≡_}
-use mathlib.Core.List.{List, [], _∷_, map}
+use mathlib.Core.List.{List}
 use mathlib.Core.Bool.{true}
-use Prim.Native.Nat.{zero, suc, _<_}
-use native.Mathlib.Omega.{arith}
-use lib.ListN.{length}
+use lib.Ieee.{Float}
+use Rattle.face.specs.declared.face.Quad.{Quad}
+use Rattle.face.specs.declared.inset.Inset.{Inset}
 use Rattle.face.specs.declared.triangle.Counts.{Counts}
+use Rattle.face.specs.Face.{alteredQuad}
+use Rattle.face.specs.Inset.{insetQuadOf}
 use Rattle.answer.specs.declared.answer.Refusal.the-variants.{Shape, Range}
 use Rattle.answer.specs.declared.answer.Answer.{Answer}
 use Rattle.answer.specs.declared.answer.Answer.the-variants.{Done}
 use Rattle.answer.specs.Answers.{given}
 use Rattle.answer.proofs.Laws.{given-done}
+use Rattle.placement.specs.declared.options.FaceOptions.{FaceOptions}
+use Rattle.placement.specs.declared.placement.Stand.{Stand}
+use Rattle.placement.specs.Options.{optionFor}
 use Rattle.mesh.proofs.Jobs.{whole-room}
 use Rattle.buffers.specs.Mesh.{none, measure}
 use Rattle.buffers.specs.Laying.{Buffers, fits}
+use Rattle.buffers.specs.Faces.{quadMesh, hexagonMesh, wallMesh}
 use Rattle.buffers.specs.Windows.{Own, AllOwn}
-use Rattle.buffers.proofs.Joined.{quad-own, hexagon-own}
+use Rattle.buffers.proofs.Joined.{quad-own, hexagon-own, standing-own}
+use Rattle.buffers.proofs.Named.{names-own}
+use Rattle.plane_builder.specs.Cap.{capHexagon, capMesh}
 use Rattle.column.specs.declared.Column.{Column}
 use Rattle.column.specs.declared.Name.{Name}
 use Rattle.column.specs.declared.Name.the-variants.{OfSide, Top, Bottom}
-use Rattle.column.specs.Column.{Lists, columnNames, meshOf, columnFaces, shapeOf, rangeOf, checked}
+use Rattle.column.specs.Column.{Lists, sideAt, columnNames, partQuad, wallStand, topStand, bottomStand, meshOf, columnFaces, shapeOf, rangeOf, checked}
 use Rattle.column_builder.specs.Calls.{wholeAnswer}
 
 -- ---- what a done answer says: there is room for every face
@@ -31,17 +39,18 @@ module _ (job : Column) (ls : Lists) where
   whole-ready = whole-room (checked job ls) (columnFaces job ls) passes
 
 -- ---- X8: every face's triangles name its own vertices
+wall-own : (t : Stand) (how : Inset) (q : Quad) → Own (wallMesh t how q)
+wall-own t how q = standing-own t (quadMesh how (insetQuadOf how q)) (quad-own how (insetQuadOf how q))
+
+cap-own : (t : Stand) (l : List Float) (o : FaceOptions) → Own (capMesh t l o)
+cap-own t l o = standing-own t (hexagonMesh (o .inset) (capHexagon l o)) (hexagon-own (o .inset) (capHexagon l o))
+
 module _ (job : Column) (ls : Lists) where
   name-own : (n : Name) → Own (meshOf job ls n)
   unfolding meshOf
-  name-own (OfSide d p) = quad-own _ _
-  name-own Top = hexagon-own _ _
-  name-own Bottom = hexagon-own _ _
-
-  names-own : (ns : List Name) → AllOwn (map (meshOf job ls) ns)
-  names-own [] k h = absurd (let g : k < 0 = h in omega arith)
-  names-own (n ∷ ns) zero h = name-own n
-  names-own (n ∷ ns) (suc k) h = names-own ns k (let g : suc k < suc (length (map (meshOf job ls) ns)) = h in omega arith)
+  name-own (OfSide d p) = let o = optionFor (ls .numbers) (ls .marks) (sideAt (job .sides) d) in wall-own (wallStand job) (o .inset) (alteredQuad (o .uv) (partQuad job (ls .pairs) d p))
+  name-own Top = cap-own (topStand job) (ls .corners) (optionFor (ls .numbers) (ls .marks) (job .top))
+  name-own Bottom = cap-own (bottomStand job) (ls .corners) (optionFor (ls .numbers) (ls .marks) (job .bottom))
 
   pub column-own : AllOwn (columnFaces job ls)
-  column-own = names-own (columnNames job)
+  column-own = names-own (meshOf job ls) name-own (columnNames job)

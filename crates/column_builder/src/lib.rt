@@ -1,14 +1,16 @@
 // Columns built, after column_builder.rs of hexx: six sides of parts one above the other, a top and a bottom.
+mod laying;
+
 ghost use mathlib.Core.Path.{_≡_};
-ghost use Rattle.buffers.specs.Laying.{four};
-ghost use Rattle.column.specs.Column.{lists, planned};
+ghost use Rattle.buffers.specs.Lent.{entering, become};
+ghost use Rattle.column.specs.Column.{lent, planned};
 ghost use Rattle.column_builder.specs.Calls.{wholeAnswer, faceAnswer, built, faced};
 use answer::answer::Answer;
 use column::Column;
 
 // The counts of the job, or why it is refused.
 pub fn plan(job: Column, pairs: &[f32], corners: &[f32], numbers: &[f32], marks: &[u8]) -> Answer
-    ensures { λ r. ⌜ r ≡ planned job (lists (now (pairs .entry)) (now (corners .entry)) (now (numbers .entry)) (now (marks .entry))) ⌝ }
+    ensures { λ r. ⌜ r ≡ planned job (lent pairs corners numbers marks) ⌝ }
 {
     column::plan(job, pairs, corners, numbers, marks)
 }
@@ -24,8 +26,8 @@ pub fn build(
     uvs: &mut [f32],
     indices: &mut [u16],
 ) -> Answer
-    ensures answer { λ r. ⌜ r ≡ wholeAnswer job (lists (now (pairs .entry)) (now (corners .entry)) (now (numbers .entry)) (now (marks .entry))) (four (now (vertices .entry)) (now (normals .entry)) (now (uvs .entry)) (now (indices .entry))) ⌝ }
-    ensures buffers { λ _. ⌜ four (now (vertices .exit)) (now (normals .exit)) (now (uvs .exit)) (now (indices .exit)) ≡ built job (lists (now (pairs .entry)) (now (corners .entry)) (now (numbers .entry)) (now (marks .entry))) (four (now (vertices .entry)) (now (normals .entry)) (now (uvs .entry)) (now (indices .entry))) ⌝ }
+    ensures answer { λ r. ⌜ r ≡ wholeAnswer job (lent pairs corners numbers marks) (entering vertices normals uvs indices) ⌝ }
+    ensures buffers { λ _. ⌜ become (built job (lent pairs corners numbers marks)) vertices normals uvs indices ⌝ }
 {
     let answer = answer::answer::room(
         plan(job, pairs, corners, numbers, marks),
@@ -37,7 +39,7 @@ pub fn build(
     match answer {
         Answer::Refused(why) => Answer::Refused(why),
         Answer::Done(counts) => {
-            column_laying::put_all(
+            crate::laying::put_all(
                 job,
                 pairs,
                 corners,
@@ -65,26 +67,27 @@ pub fn face(
     uvs: &mut [f32],
     indices: &mut [u16],
 ) -> Answer
-    ensures answer { λ r. ⌜ r ≡ faceAnswer job (lists (now (pairs .entry)) (now (corners .entry)) (now (numbers .entry)) (now (marks .entry))) number (four (now (vertices .entry)) (now (normals .entry)) (now (uvs .entry)) (now (indices .entry))) ⌝ }
-    ensures buffers { λ _. ⌜ four (now (vertices .exit)) (now (normals .exit)) (now (uvs .exit)) (now (indices .exit)) ≡ faced job (lists (now (pairs .entry)) (now (corners .entry)) (now (numbers .entry)) (now (marks .entry))) number (four (now (vertices .entry)) (now (normals .entry)) (now (uvs .entry)) (now (indices .entry))) ⌝ }
+    ensures answer { λ r. ⌜ r ≡ faceAnswer job (lent pairs corners numbers marks) number (entering vertices normals uvs indices) ⌝ }
+    ensures buffers { λ _. ⌜ become (faced job (lent pairs corners numbers marks) number) vertices normals uvs indices ⌝ }
 {
-    let answer = answer::answer::room(
-        answer::answer::name(
-            plan(job, pairs, corners, numbers, marks),
-            number,
-            column::names::face_count(job),
-        ),
+    let named = answer::answer::name(
+        plan(job, pairs, corners, numbers, marks),
+        number,
+        column::names::face_count(job),
+    );
+    let roomed = answer::answer::room(
+        named,
         vertices.len(),
         normals.len(),
         uvs.len(),
         indices.len(),
     );
-    match answer {
+    match roomed {
         Answer::Refused(why) => Answer::Refused(why),
-        Answer::Done(counts) => {
+        Answer::Done(whole) => {
             let name = column::names::name_of(job, number);
             let at = column::names::start_of(job, name, numbers, marks);
-            column_laying::put_named(
+            crate::laying::put_named(
                 job,
                 name,
                 at,
@@ -97,7 +100,7 @@ pub fn face(
                 uvs,
                 indices,
             );
-            Answer::Done(counts)
+            Answer::Done(whole)
         }
     }
 }

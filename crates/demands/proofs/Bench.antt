@@ -18,14 +18,14 @@ use Rattle.column.specs.declared.Column.{Column}
 use Rattle.column.specs.Column.{columnCounts, checked}
 use Rattle.column.proofs.Counts.{column-counts}
 use Rattle.demands.specs.Job.{OfColumn, planned}
-use Rattle.demands.specs.Bench.{lent, Case, Plan, Summed, Quads, Hexagons, Connected, Rooted, Fused, Holds, All, bits, plans, insets, numbers, benchCases}
+use Rattle.demands.specs.Bench.{zeroLists, Case, Plan, Summed, Quads, Hexagons, Connected, Rooted, Fused, Holds, All, bits, plans, insets, numbers, benchCases}
 
 -- ---- plans: the answer by the counts in closed form is the plan
 abbrev byCounts : Column → Answer
-byCounts job = checked job lent (limited (columnCounts job [] []))
+byCounts job = checked job zeroLists (limited (columnCounts job [] []))
 
-by-counts : (job : Column) → planned (OfColumn job lent) ≡ byCounts job
-by-counts job = ap (λ (c : Counts). checked job lent (limited c)) (column-counts job lent)
+by-counts : (job : Column) → planned (OfColumn job zeroLists) ≡ byCounts job
+by-counts job = ap (λ (c : Counts). checked job zeroLists (limited c)) (column-counts job zeroLists)
 
 -- a case with its plan by counts
 abbrev Shown : Case → Type 0
@@ -39,7 +39,7 @@ Shown (Fused a b c y) = Holds (Fused a b c y)
 
 so-holds : (c : Case) → Shown c → Holds c
 so-holds (Plan job n c) s = (ap numberOf (by-counts job) ∙ s .0, ap countsOf (by-counts job) ∙ s .1)
-so-holds (Summed job c) s = column-counts job lent ∙ s
+so-holds (Summed job c) s = column-counts job zeroLists ∙ s
 so-holds (Quads keep c) s = s
 so-holds (Hexagons keep c) s = s
 so-holds (Connected k ts) s = s

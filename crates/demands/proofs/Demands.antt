@@ -34,38 +34,38 @@ use Rattle.demands.specs.Job.{Job, OfCheapColumn, OfPlane, OfColumn, fac
 -- ---- each kind is its own tests and its faces: what its functions promise is what `Jobs` says of those
 abbrev checked : Job → Answer → Answer
 checked (OfCheapColumn job l) = cheap.checked job l
-checked (OfPlane job l ns ms) = plane.checked job l ns ms
+checked (OfPlane job ls) = plane.checked job ls
 checked (OfColumn job ls) = column.checked job ls
 
 planned-is : (job : Job) → planned job ≡ plannedOf (checked job) (faces job)
 planned-is (OfCheapColumn job l) = refl
-planned-is (OfPlane job l ns ms) = refl
+planned-is (OfPlane job ls) = refl
 planned-is (OfColumn job ls) = refl
 
 whole-is : (job : Job) (B : Buffers) → wholeAnswer job B ≡ wholeOf (checked job) (faces job) B
 whole-is (OfCheapColumn job l) B = refl
-whole-is (OfPlane job l ns ms) B = refl
+whole-is (OfPlane job ls) B = refl
 whole-is (OfColumn job ls) B = refl
 
 face-is : (job : Job) (k : ℕ) (B : Buffers) → faceAnswer job k B ≡ oneOf (checked job) (faces job) k B
 face-is (OfCheapColumn job l) k B = refl
-face-is (OfPlane job l ns ms) k B = refl
+face-is (OfPlane job ls) k B = refl
 face-is (OfColumn job ls) k B = refl
 
 built-is : (job : Job) (B : Buffers) → built job B ≡ builtOf (checked job) (faces job) B
 built-is (OfCheapColumn job l) B = refl
-built-is (OfPlane job l ns ms) B = refl
+built-is (OfPlane job ls) B = refl
 built-is (OfColumn job ls) B = refl
 
 faced-is : (job : Job) (k : ℕ) (B : Buffers) → faced job k B ≡ facedOf (checked job) (faces job) k B
 faced-is (OfCheapColumn job l) k B = refl
-faced-is (OfPlane job l ns ms) k B = refl
+faced-is (OfPlane job ls) k B = refl
 faced-is (OfColumn job ls) k B = refl
 
 -- its own tests change no answer
 passes : (job : Job) (a : Answer) (d : Counts) → checked job a ≡ Done d → a ≡ Done d
 passes (OfCheapColumn job l) = cheapLaws.passes job l
-passes (OfPlane job l ns ms) = planeLaws.passes job l ns ms
+passes (OfPlane job ls) = planeLaws.passes job ls
 passes (OfColumn job ls) = columnLaws.passes job ls
 
 -- ---- D2: every answer and every place is determined
@@ -214,7 +214,7 @@ alone m o (suc k) h = let g : suc k < 1 = h in absurd (omega arith)
 
 all-own : (job : Job) → AllOwn (faces job)
 all-own (OfCheapColumn job l) = alone _ (cheapLaws.column-own job l)
-all-own (OfPlane job l ns ms) = alone _ (planeLaws.plane-own job l ns ms)
+all-own (OfPlane job ls) = alone _ (planeLaws.plane-own job ls)
 all-own (OfColumn job ls) = columnLaws.column-own job ls
 
 pub triangles-own : (job : Job) (i : ℕ) → i < length (joined (faces job) .triangles) → OfFace (faces job) i

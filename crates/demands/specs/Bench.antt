@@ -18,12 +18,12 @@ use Rattle.face.specs.Triangles.{tri, counts, quadTriangles, insetTriangles}
 use Rattle.answer.specs.Answers.{numberOf, countsOf}
 use Rattle.buffers.specs.Mesh.{sizeOf, measure}
 use Rattle.buffers.specs.Faces.{quadMesh, hexagonMesh}
+use Rattle.placement.specs.declared.options.Choice.{Choice}
+use Rattle.placement.specs.declared.options.Choice.the-variants as option
 use Rattle.placement.specs.declared.placement.Choice3.the-variants as choice
 use Rattle.placement.specs.declared.placement.Turn.the-variants as turn
 use Rattle.column.specs.declared.Subdivisions.{Subdivisions}
 use Rattle.column.specs.declared.Subdivisions.the-variants as subdivisions
-use Rattle.column.specs.declared.Choice.{Choice}
-use Rattle.column.specs.declared.Choice.the-variants as option
 use Rattle.column.specs.declared.Side.{Side}
 use Rattle.column.specs.declared.Column.{Column}
 use Rattle.column.specs.Column.{Lists, lists}
@@ -60,8 +60,8 @@ three = on ∷ on ∷ on ∷ off ∷ off ∷ off ∷ []
 abbrev pub one : List Side
 one = on ∷ off ∷ off ∷ off ∷ off ∷ off ∷ []
 
-abbrev pub lent : Lists
-lent = lists (each (λ i. f0) 24) (each (λ i. f0) 12) [] []
+abbrev pub zeroLists : Lists
+zeroLists = lists (each (λ i. f0) 24) (each (λ i. f0) 12) [] []
 
 -- ---- what a case says
 pub data Case : Type 0 where
@@ -78,8 +78,8 @@ pub data Case : Type 0 where
   Fused : Float → Float → Float → Float → Case
 
 abbrev pub Holds : Case → Type 0
-Holds (Plan job n c) = (numberOf (planned (OfColumn job lent)) ≡ n) × (countsOf (planned (OfColumn job lent)) ≡ c)
-Holds (Summed job c) = measure (faces (OfColumn job lent)) ≡ c
+Holds (Plan job n c) = (numberOf (planned (OfColumn job zeroLists)) ≡ n) × (countsOf (planned (OfColumn job zeroLists)) ≡ c)
+Holds (Summed job c) = measure (faces (OfColumn job zeroLists)) ≡ c
 Holds (Quads keep c) = (k : Float) (q : InsetQuad) → (sizeOf (quadMesh (Centroid k keep) q) ≡ c) × (sizeOf (quadMesh (SmallestEdge k keep) q) ≡ c)
 Holds (Hexagons keep c) = (k : Float) (h : InsetHexagon) → (sizeOf (hexagonMesh (Centroid k keep) h) ≡ c) × (sizeOf (hexagonMesh (SmallestEdge k keep) h) ≡ c)
 Holds (Connected k ts) = (keep : Bool) → (take 2 (insetTriangles (Centroid k keep) 4 quadTriangles) ≡ ts) × (take 2 (insetTriangles (SmallestEdge k keep) 4 quadTriangles) ≡ ts)

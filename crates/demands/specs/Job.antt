@@ -20,39 +20,39 @@ use Rattle.column_builder.specs.Calls as columnCalls
 -- a job with the lists that are lent to it
 pub data Job : Type 0 where
   OfCheapColumn : CheapColumn → List Float → Job
-  OfPlane : Plane → List Float → List Float → List ℕ → Job
+  OfPlane : Plane → plane.Lists → Job
   OfColumn : Column → column.Lists → Job
 
 -- R15, R16: its faces, in their order
 abbrev pub faces : Job → List Mesh
 faces (OfCheapColumn job l) = cheap.cheapFaces job l
-faces (OfPlane job l ns ms) = plane.planeFaces job l ns ms
+faces (OfPlane job ls) = plane.planeFaces job ls
 faces (OfColumn job ls) = column.columnFaces job ls
 
 -- ---- what the three calls of each kind promise
 abbrev pub planned : Job → Answer
 planned (OfCheapColumn job l) = cheap.planned job l
-planned (OfPlane job l ns ms) = plane.planned job l ns ms
+planned (OfPlane job ls) = plane.planned job ls
 planned (OfColumn job ls) = column.planned job ls
 
 abbrev pub wholeAnswer : Job → Buffers → Answer
 wholeAnswer (OfCheapColumn job l) = cheap.wholeAnswer job l
-wholeAnswer (OfPlane job l ns ms) = plane.wholeAnswer job l ns ms
+wholeAnswer (OfPlane job ls) = plane.wholeAnswer job ls
 wholeAnswer (OfColumn job ls) = columnCalls.wholeAnswer job ls
 
 abbrev pub faceAnswer : Job → ℕ → Buffers → Answer
 faceAnswer (OfCheapColumn job l) = cheap.faceAnswer job l
-faceAnswer (OfPlane job l ns ms) = plane.faceAnswer job l ns ms
+faceAnswer (OfPlane job ls) = plane.faceAnswer job ls
 faceAnswer (OfColumn job ls) = columnCalls.faceAnswer job ls
 
 abbrev pub built : Job → Buffers → Buffers
 built (OfCheapColumn job l) = cheap.built job l
-built (OfPlane job l ns ms) = plane.built job l ns ms
+built (OfPlane job ls) = plane.built job ls
 built (OfColumn job ls) = columnCalls.built job ls
 
 abbrev pub faced : Job → ℕ → Buffers → Buffers
 faced (OfCheapColumn job l) = cheap.faced job l
-faced (OfPlane job l ns ms) = plane.faced job l ns ms
+faced (OfPlane job ls) = plane.faced job ls
 faced (OfColumn job ls) = columnCalls.faced job ls
 
 -- ---- X5: a run of calls on the same buffers, for a job

@@ -44,15 +44,15 @@ alter-uv-determined o uv r s p q = determined p q
 pub wrap-uv-determined : (at r s : CVec2) → r ≡ told2 (wrapped (vec2Of at)) → s ≡ told2 (wrapped (vec2Of at)) → r ≡ s
 wrap-uv-determined at r s p q = determined p q
 
-module _ (job : CPlane) (l ns : List Float) (ms : List ℕ) where
-  pub plane-plan-determined : (x y : CAnswer) → x ≡ told (plane.planned (planeOf job) l ns ms) → y ≡ told (plane.planned (planeOf job) l ns ms) → x ≡ y
+module _ (job : CPlane) (ls : plane.Lists) where
+  pub plane-plan-determined : (x y : CAnswer) → x ≡ told (plane.planned (planeOf job) ls) → y ≡ told (plane.planned (planeOf job) ls) → x ≡ y
   plane-plan-determined x y p q = determined p q
 
-  pub plane-build-determined : (B : Buffers) (x y : CAnswer) (C D : Buffers) → x ≡ told (plane.wholeAnswer (planeOf job) l ns ms B) → y ≡ told (plane.wholeAnswer (planeOf job) l ns ms B) → C ≡ plane.built (planeOf job) l ns ms B → D ≡ plane.built (planeOf job) l ns ms B → (x ≡ y) × (C ≡ D)
-  plane-build-determined B = both (plane.wholeAnswer (planeOf job) l ns ms B) (plane.built (planeOf job) l ns ms B)
+  pub plane-build-determined : (B : Buffers) (x y : CAnswer) (C D : Buffers) → x ≡ told (plane.wholeAnswer (planeOf job) ls B) → y ≡ told (plane.wholeAnswer (planeOf job) ls B) → C ≡ plane.built (planeOf job) ls B → D ≡ plane.built (planeOf job) ls B → (x ≡ y) × (C ≡ D)
+  plane-build-determined B = both (plane.wholeAnswer (planeOf job) ls B) (plane.built (planeOf job) ls B)
 
-  pub plane-face-determined : (n : ℕ) (B : Buffers) (x y : CAnswer) (C D : Buffers) → x ≡ told (plane.faceAnswer (planeOf job) l ns ms n B) → y ≡ told (plane.faceAnswer (planeOf job) l ns ms n B) → C ≡ plane.faced (planeOf job) l ns ms n B → D ≡ plane.faced (planeOf job) l ns ms n B → (x ≡ y) × (C ≡ D)
-  plane-face-determined n B = both (plane.faceAnswer (planeOf job) l ns ms n B) (plane.faced (planeOf job) l ns ms n B)
+  pub plane-face-determined : (n : ℕ) (B : Buffers) (x y : CAnswer) (C D : Buffers) → x ≡ told (plane.faceAnswer (planeOf job) ls n B) → y ≡ told (plane.faceAnswer (planeOf job) ls n B) → C ≡ plane.faced (planeOf job) ls n B → D ≡ plane.faced (planeOf job) ls n B → (x ≡ y) × (C ≡ D)
+  plane-face-determined n B = both (plane.faceAnswer (planeOf job) ls n B) (plane.faced (planeOf job) ls n B)
 
 module _ (job : CColumn) (ls : column.Lists) where
   pub column-plan-determined : (x y : CAnswer) → x ≡ told (column.planned (columnOf job) ls) → y ≡ told (column.planned (columnOf job) ls) → x ≡ y

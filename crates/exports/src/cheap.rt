@@ -1,6 +1,6 @@
 // The cheap column: six corners in a list of twelve numbers.
 ghost use mathlib.Core.Path.{_≡_};
-ghost use Rattle.buffers.specs.Laying.{four};
+ghost use Rattle.buffers.specs.Lent.{entering, become};
 ghost use Rattle.cheap_column.specs.CheapColumn.{planned, wholeAnswer, faceAnswer, built, faced};
 ghost use Rattle.boundary.specs.Given.{cheapColumnOf};
 ghost use Rattle.boundary.specs.Told.{told};
@@ -25,8 +25,8 @@ pub extern "C" fn hosirekar_cheap_column_build(
     uvs: &mut [f32],
     indices: &mut [u16],
 ) -> CAnswer
-    ensures answer { λ r. ⌜ r ≡ told (wholeAnswer (cheapColumnOf job) (now (corners .entry)) (four (now (vertices .entry)) (now (normals .entry)) (now (uvs .entry)) (now (indices .entry)))) ⌝ }
-    ensures buffers { λ _. ⌜ four (now (vertices .exit)) (now (normals .exit)) (now (uvs .exit)) (now (indices .exit)) ≡ built (cheapColumnOf job) (now (corners .entry)) (four (now (vertices .entry)) (now (normals .entry)) (now (uvs .entry)) (now (indices .entry))) ⌝ }
+    ensures answer { λ r. ⌜ r ≡ told (wholeAnswer (cheapColumnOf job) (now (corners .entry)) (entering vertices normals uvs indices)) ⌝ }
+    ensures buffers { λ _. ⌜ become (built (cheapColumnOf job) (now (corners .entry))) vertices normals uvs indices ⌝ }
 {
     boundary::told::tell(cheap_column::build(
         boundary::jobs::cheap_column_of(job),
@@ -49,8 +49,8 @@ pub extern "C" fn hosirekar_cheap_column_face(
     uvs: &mut [f32],
     indices: &mut [u16],
 ) -> CAnswer
-    ensures answer { λ r. ⌜ r ≡ told (faceAnswer (cheapColumnOf job) (now (corners .entry)) number (four (now (vertices .entry)) (now (normals .entry)) (now (uvs .entry)) (now (indices .entry)))) ⌝ }
-    ensures buffers { λ _. ⌜ four (now (vertices .exit)) (now (normals .exit)) (now (uvs .exit)) (now (indices .exit)) ≡ faced (cheapColumnOf job) (now (corners .entry)) number (four (now (vertices .entry)) (now (normals .entry)) (now (uvs .entry)) (now (indices .entry))) ⌝ }
+    ensures answer { λ r. ⌜ r ≡ told (faceAnswer (cheapColumnOf job) (now (corners .entry)) number (entering vertices normals uvs indices)) ⌝ }
+    ensures buffers { λ _. ⌜ become (faced (cheapColumnOf job) (now (corners .entry)) number) vertices normals uvs indices ⌝ }
 {
     boundary::told::tell(cheap_column::face(
         boundary::jobs::cheap_column_of(job),

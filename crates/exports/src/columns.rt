@@ -1,8 +1,8 @@
 // A column: the ends of six sides in a list of 24 numbers, six cap corners in one of twelve, and a
 // table of options in two lists.
 ghost use mathlib.Core.Path.{_≡_};
-ghost use Rattle.buffers.specs.Laying.{four};
-ghost use Rattle.column.specs.Column.{lists, planned};
+ghost use Rattle.buffers.specs.Lent.{entering, become};
+ghost use Rattle.column.specs.Column.{lent, planned};
 ghost use Rattle.column_builder.specs.Calls.{wholeAnswer, faceAnswer, built, faced};
 ghost use Rattle.boundary.specs.Given.{columnOf};
 ghost use Rattle.boundary.specs.Told.{told};
@@ -18,7 +18,7 @@ pub extern "C" fn hosirekar_column_plan(
     numbers: &[f32],
     marks: &[u8],
 ) -> CAnswer
-    ensures { λ r. ⌜ r ≡ told (planned (columnOf job) (lists (now (pairs .entry)) (now (corners .entry)) (now (numbers .entry)) (now (marks .entry)))) ⌝ }
+    ensures { λ r. ⌜ r ≡ told (planned (columnOf job) (lent pairs corners numbers marks)) ⌝ }
 {
     boundary::told::tell(column_builder::plan(
         boundary::jobs::column_of(job),
@@ -42,8 +42,8 @@ pub extern "C" fn hosirekar_column_build(
     uvs: &mut [f32],
     indices: &mut [u16],
 ) -> CAnswer
-    ensures answer { λ r. ⌜ r ≡ told (wholeAnswer (columnOf job) (lists (now (pairs .entry)) (now (corners .entry)) (now (numbers .entry)) (now (marks .entry))) (four (now (vertices .entry)) (now (normals .entry)) (now (uvs .entry)) (now (indices .entry)))) ⌝ }
-    ensures buffers { λ _. ⌜ four (now (vertices .exit)) (now (normals .exit)) (now (uvs .exit)) (now (indices .exit)) ≡ built (columnOf job) (lists (now (pairs .entry)) (now (corners .entry)) (now (numbers .entry)) (now (marks .entry))) (four (now (vertices .entry)) (now (normals .entry)) (now (uvs .entry)) (now (indices .entry))) ⌝ }
+    ensures answer { λ r. ⌜ r ≡ told (wholeAnswer (columnOf job) (lent pairs corners numbers marks) (entering vertices normals uvs indices)) ⌝ }
+    ensures buffers { λ _. ⌜ become (built (columnOf job) (lent pairs corners numbers marks)) vertices normals uvs indices ⌝ }
 {
     boundary::told::tell(column_builder::build(
         boundary::jobs::column_of(job),
@@ -72,8 +72,8 @@ pub extern "C" fn hosirekar_column_face(
     uvs: &mut [f32],
     indices: &mut [u16],
 ) -> CAnswer
-    ensures answer { λ r. ⌜ r ≡ told (faceAnswer (columnOf job) (lists (now (pairs .entry)) (now (corners .entry)) (now (numbers .entry)) (now (marks .entry))) number (four (now (vertices .entry)) (now (normals .entry)) (now (uvs .entry)) (now (indices .entry)))) ⌝ }
-    ensures buffers { λ _. ⌜ four (now (vertices .exit)) (now (normals .exit)) (now (uvs .exit)) (now (indices .exit)) ≡ faced (columnOf job) (lists (now (pairs .entry)) (now (corners .entry)) (now (numbers .entry)) (now (marks .entry))) number (four (now (vertices .entry)) (now (normals .entry)) (now (uvs .entry)) (now (indices .entry))) ⌝ }
+    ensures answer { λ r. ⌜ r ≡ told (faceAnswer (columnOf job) (lent pairs corners numbers marks) number (entering vertices normals uvs indices)) ⌝ }
+    ensures buffers { λ _. ⌜ become (faced (columnOf job) (lent pairs corners numbers marks) number) vertices normals uvs indices ⌝ }
 {
     boundary::told::tell(column_builder::face(
         boundary::jobs::column_of(job),

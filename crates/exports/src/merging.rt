@@ -1,9 +1,9 @@
 // One mesh merged into another.
 ghost use mathlib.Core.Path.{_≡_};
-ghost use Rattle.buffers.specs.Laying.{four};
-ghost use Rattle.merge.specs.Merge.{mergeAnswer, merged};
+ghost use Rattle.buffers.specs.Lent.{entering, become};
+ghost use Rattle.merge.specs.Merge.{merged};
 ghost use Rattle.boundary.specs.Given.{countsIn};
-ghost use Rattle.boundary.specs.Told.{told};
+ghost use Rattle.exports.specs.Merging.{mergeTold};
 use boundary::given::CCounts;
 use boundary::told::CAnswer;
 
@@ -21,8 +21,8 @@ pub extern "C" fn hosirekar_merge(
     uvs: &mut [f32],
     indices: &mut [u16],
 ) -> CAnswer
-    ensures answer { λ r. ⌜ r ≡ told (mergeAnswer (countsIn source) (four (now (svertices .entry)) (now (snormals .entry)) (now (suvs .entry)) (now (sindices .entry))) (countsIn target) (four (now (vertices .entry)) (now (normals .entry)) (now (uvs .entry)) (now (indices .entry)))) ⌝ }
-    ensures buffers { λ _. ⌜ four (now (vertices .exit)) (now (normals .exit)) (now (uvs .exit)) (now (indices .exit)) ≡ merged (countsIn source) (four (now (svertices .entry)) (now (snormals .entry)) (now (suvs .entry)) (now (sindices .entry))) (countsIn target) (four (now (vertices .entry)) (now (normals .entry)) (now (uvs .entry)) (now (indices .entry))) ⌝ }
+    ensures answer { λ r. ⌜ r ≡ mergeTold source (entering svertices snormals suvs sindices) target (entering vertices normals uvs indices) ⌝ }
+    ensures buffers { λ _. ⌜ become (merged (countsIn source) (entering svertices snormals suvs sindices) (countsIn target)) vertices normals uvs indices ⌝ }
 {
     boundary::told::tell(merge::merge(
         boundary::given::counts_in(source),

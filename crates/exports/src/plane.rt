@@ -1,7 +1,7 @@
 // A plane: six corners in a list of twelve numbers, and a table of options in two lists.
 ghost use mathlib.Core.Path.{_≡_};
-ghost use Rattle.buffers.specs.Laying.{four};
-ghost use Rattle.plane_builder.specs.Plane.{planned, wholeAnswer, faceAnswer, built, faced};
+ghost use Rattle.buffers.specs.Lent.{entering, become};
+ghost use Rattle.plane_builder.specs.Plane.{lent, planned, wholeAnswer, faceAnswer, built, faced};
 ghost use Rattle.boundary.specs.Given.{planeOf};
 ghost use Rattle.boundary.specs.Told.{told};
 use boundary::jobs::CPlane;
@@ -15,7 +15,7 @@ pub extern "C" fn hosirekar_plane_plan(
     numbers: &[f32],
     marks: &[u8],
 ) -> CAnswer
-    ensures { λ r. ⌜ r ≡ told (planned (planeOf job) (now (corners .entry)) (now (numbers .entry)) (now (marks .entry))) ⌝ }
+    ensures { λ r. ⌜ r ≡ told (planned (planeOf job) (lent corners numbers marks)) ⌝ }
 {
     boundary::told::tell(plane_builder::plan(
         boundary::jobs::plane_of(job),
@@ -37,8 +37,8 @@ pub extern "C" fn hosirekar_plane_build(
     uvs: &mut [f32],
     indices: &mut [u16],
 ) -> CAnswer
-    ensures answer { λ r. ⌜ r ≡ told (wholeAnswer (planeOf job) (now (corners .entry)) (now (numbers .entry)) (now (marks .entry)) (four (now (vertices .entry)) (now (normals .entry)) (now (uvs .entry)) (now (indices .entry)))) ⌝ }
-    ensures buffers { λ _. ⌜ four (now (vertices .exit)) (now (normals .exit)) (now (uvs .exit)) (now (indices .exit)) ≡ built (planeOf job) (now (corners .entry)) (now (numbers .entry)) (now (marks .entry)) (four (now (vertices .entry)) (now (normals .entry)) (now (uvs .entry)) (now (indices .entry))) ⌝ }
+    ensures answer { λ r. ⌜ r ≡ told (wholeAnswer (planeOf job) (lent corners numbers marks) (entering vertices normals uvs indices)) ⌝ }
+    ensures buffers { λ _. ⌜ become (built (planeOf job) (lent corners numbers marks)) vertices normals uvs indices ⌝ }
 {
     boundary::told::tell(plane_builder::build(
         boundary::jobs::plane_of(job),
@@ -65,8 +65,8 @@ pub extern "C" fn hosirekar_plane_face(
     uvs: &mut [f32],
     indices: &mut [u16],
 ) -> CAnswer
-    ensures answer { λ r. ⌜ r ≡ told (faceAnswer (planeOf job) (now (corners .entry)) (now (numbers .entry)) (now (marks .entry)) number (four (now (vertices .entry)) (now (normals .entry)) (now (uvs .entry)) (now (indices .entry)))) ⌝ }
-    ensures buffers { λ _. ⌜ four (now (vertices .exit)) (now (normals .exit)) (now (uvs .exit)) (now (indices .exit)) ≡ faced (planeOf job) (now (corners .entry)) (now (numbers .entry)) (now (marks .entry)) number (four (now (vertices .entry)) (now (normals .entry)) (now (uvs .entry)) (now (indices .entry))) ⌝ }
+    ensures answer { λ r. ⌜ r ≡ told (faceAnswer (planeOf job) (lent corners numbers marks) number (entering vertices normals uvs indices)) ⌝ }
+    ensures buffers { λ _. ⌜ become (faced (planeOf job) (lent corners numbers marks) number) vertices normals uvs indices ⌝ }
 {
     boundary::told::tell(plane_builder::face(
         boundary::jobs::plane_of(job),

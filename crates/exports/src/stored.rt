@@ -1,6 +1,6 @@
 // What is done to a stored mesh: four lists and two counts.
 ghost use mathlib.Core.Path.{_≡_};
-ghost use Rattle.buffers.specs.Laying.{four};
+ghost use Rattle.buffers.specs.Lent.{entering, become};
 ghost use Rattle.mesh.specs.Stored.{scaleAnswer, scaled, offsetAnswer, shifted, textureScaleAnswer, textureScaled, centroidOf, uvCentroidOf};
 ghost use Rattle.boundary.specs.Given.{countsIn, vec2Of, vec3Of};
 ghost use Rattle.boundary.specs.Told.{told, toldCentroid, toldUvCentroid};
@@ -21,8 +21,8 @@ pub extern "C" fn hosirekar_scale(
     uvs: &[f32],
     indices: &[u16],
 ) -> CAnswer
-    ensures answer { λ r. ⌜ r ≡ told (scaleAnswer (countsIn counts) (vec3Of by) (four (now (vertices .entry)) (now (normals .entry)) (now (uvs .entry)) (now (indices .entry)))) ⌝ }
-    ensures buffers { λ _. ⌜ four (now (vertices .exit)) (now (normals .entry)) (now (uvs .entry)) (now (indices .entry)) ≡ scaled (countsIn counts) (vec3Of by) (four (now (vertices .entry)) (now (normals .entry)) (now (uvs .entry)) (now (indices .entry))) ⌝ }
+    ensures answer { λ r. ⌜ r ≡ told (scaleAnswer (countsIn counts) (vec3Of by) (entering vertices normals uvs indices)) ⌝ }
+    ensures buffers { λ _. ⌜ become (scaled (countsIn counts) (vec3Of by)) vertices normals uvs indices ⌝ }
 {
     boundary::told::tell(mesh::stored::scale(
         boundary::given::counts_in(counts),
@@ -44,8 +44,8 @@ pub extern "C" fn hosirekar_offset(
     uvs: &[f32],
     indices: &[u16],
 ) -> CAnswer
-    ensures answer { λ r. ⌜ r ≡ told (offsetAnswer (countsIn counts) (vec3Of by) (four (now (vertices .entry)) (now (normals .entry)) (now (uvs .entry)) (now (indices .entry)))) ⌝ }
-    ensures buffers { λ _. ⌜ four (now (vertices .exit)) (now (normals .entry)) (now (uvs .entry)) (now (indices .entry)) ≡ shifted (countsIn counts) (vec3Of by) (four (now (vertices .entry)) (now (normals .entry)) (now (uvs .entry)) (now (indices .entry))) ⌝ }
+    ensures answer { λ r. ⌜ r ≡ told (offsetAnswer (countsIn counts) (vec3Of by) (entering vertices normals uvs indices)) ⌝ }
+    ensures buffers { λ _. ⌜ become (shifted (countsIn counts) (vec3Of by)) vertices normals uvs indices ⌝ }
 {
     boundary::told::tell(mesh::stored::offset(
         boundary::given::counts_in(counts),
@@ -67,8 +67,8 @@ pub extern "C" fn hosirekar_texture_scale(
     uvs: &mut [f32],
     indices: &[u16],
 ) -> CAnswer
-    ensures answer { λ r. ⌜ r ≡ told (textureScaleAnswer (countsIn counts) (vec2Of by) (four (now (vertices .entry)) (now (normals .entry)) (now (uvs .entry)) (now (indices .entry)))) ⌝ }
-    ensures buffers { λ _. ⌜ four (now (vertices .entry)) (now (normals .entry)) (now (uvs .exit)) (now (indices .entry)) ≡ textureScaled (countsIn counts) (vec2Of by) (four (now (vertices .entry)) (now (normals .entry)) (now (uvs .entry)) (now (indices .entry))) ⌝ }
+    ensures answer { λ r. ⌜ r ≡ told (textureScaleAnswer (countsIn counts) (vec2Of by) (entering vertices normals uvs indices)) ⌝ }
+    ensures buffers { λ _. ⌜ become (textureScaled (countsIn counts) (vec2Of by)) vertices normals uvs indices ⌝ }
 {
     boundary::told::tell(mesh::stored::texture_scale(
         boundary::given::counts_in(counts),
@@ -89,7 +89,7 @@ pub extern "C" fn hosirekar_centroid(
     uvs: &[f32],
     indices: &[u16],
 ) -> CCentroid
-    ensures { λ r. ⌜ r ≡ toldCentroid (centroidOf (countsIn counts) (four (now (vertices .entry)) (now (normals .entry)) (now (uvs .entry)) (now (indices .entry)))) ⌝ }
+    ensures { λ r. ⌜ r ≡ toldCentroid (centroidOf (countsIn counts) (entering vertices normals uvs indices)) ⌝ }
 {
     boundary::told::tell_centroid(mesh::stored::centroid(
         boundary::given::counts_in(counts),
@@ -109,7 +109,7 @@ pub extern "C" fn hosirekar_uv_centroid(
     uvs: &[f32],
     indices: &[u16],
 ) -> CUvCentroid
-    ensures { λ r. ⌜ r ≡ toldUvCentroid (uvCentroidOf (countsIn counts) (four (now (vertices .entry)) (now (normals .entry)) (now (uvs .entry)) (now (indices .entry)))) ⌝ }
+    ensures { λ r. ⌜ r ≡ toldUvCentroid (uvCentroidOf (countsIn counts) (entering vertices normals uvs indices)) ⌝ }
 {
     boundary::told::tell_uv_centroid(mesh::stored::uv_centroid(
         boundary::given::counts_in(counts),

@@ -5,9 +5,10 @@ ghost use mathlib.Core.List.{map};
 ghost use Prim.Native.Nat.{ℕ, _+_, _*_, _≤_, _<_, _^_};
 ghost use lib.ListN.{length, getD};
 ghost use Rattle.answer.specs.Checks.{every};
-ghost use Rattle.buffers.specs.Laying.{four, laid};
 ghost use Rattle.answer.specs.declared.answer.Answer.the-variants.{Done};
 ghost use Rattle.buffers.specs.Mesh.{also};
+ghost use Rattle.buffers.specs.Laying.{laid};
+ghost use Rattle.buffers.specs.Lent.{lending, entering, become};
 ghost use Rattle.merge.specs.Merge.{below, mergeAnswer, mergeTested, appended, merged};
 use answer::answer::Answer;
 use answer::answer::Refusal;
@@ -111,8 +112,8 @@ fn append(
     uvs: &mut [f32],
     indices: &mut [u16],
 )
-    requires { ⌜ mergeAnswer source (four (now svertices) (now snormals) (now suvs) (now sindices)) target (four (now vertices) (now normals) (now uvs) (now indices)) ≡ Done (also target source) ⌝ }
-    ensures { λ _. ⌜ four (now (vertices .exit)) (now (normals .exit)) (now (uvs .exit)) (now (indices .exit)) ≡ appended source (four (now (svertices .entry)) (now (snormals .entry)) (now (suvs .entry)) (now (sindices .entry))) target (four (now (vertices .entry)) (now (normals .entry)) (now (uvs .entry)) (now (indices .entry))) ⌝ }
+    requires { ⌜ mergeAnswer source (lending svertices snormals suvs sindices) target (lending vertices normals uvs indices) ≡ Done (also target source) ⌝ }
+    ensures { λ _. ⌜ become (appended source (entering svertices snormals suvs sindices) target) vertices normals uvs indices ⌝ }
 {
     let b = target.vertices.0;
     let v = source.vertices.0;
@@ -139,8 +140,8 @@ pub fn merge(
     uvs: &mut [f32],
     indices: &mut [u16],
 ) -> Answer
-    ensures answer { λ r. ⌜ r ≡ mergeAnswer source (four (now (svertices .entry)) (now (snormals .entry)) (now (suvs .entry)) (now (sindices .entry))) target (four (now (vertices .entry)) (now (normals .entry)) (now (uvs .entry)) (now (indices .entry))) ⌝ }
-    ensures buffers { λ _. ⌜ four (now (vertices .exit)) (now (normals .exit)) (now (uvs .exit)) (now (indices .exit)) ≡ merged source (four (now (svertices .entry)) (now (snormals .entry)) (now (suvs .entry)) (now (sindices .entry))) target (four (now (vertices .entry)) (now (normals .entry)) (now (uvs .entry)) (now (indices .entry))) ⌝ }
+    ensures answer { λ r. ⌜ r ≡ mergeAnswer source (entering svertices snormals suvs sindices) target (entering vertices normals uvs indices) ⌝ }
+    ensures buffers { λ _. ⌜ become (merged source (entering svertices snormals suvs sindices) target) vertices normals uvs indices ⌝ }
 {
     let answer = answer_of(
         source,

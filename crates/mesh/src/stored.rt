@@ -5,7 +5,8 @@ ghost use mathlib.Core.List.{foldl};
 ghost use Prim.Native.Nat.{_+_, _*_, _≤_};
 ghost use lib.ListN.{length};
 ghost use Rattle.face.specs.Vec.{plus2, plus3, zero2, zero3};
-ghost use Rattle.buffers.specs.Laying.{four, three, two, laid};
+ghost use Rattle.buffers.specs.Laying.{three, two, laid};
+ghost use Rattle.buffers.specs.Lent.{entering, become};
 ghost use Rattle.mesh.specs.Stored.{held, storedAnswer, notEmpty, pointFrom, uvFrom, stretched3, stretched2, movedPoints, movedUvs, pointsOf, uvsOf, scaled, shifted, textureScaled, scaleAnswer, offsetAnswer, textureScaleAnswer, meanOf3, meanOf2, centroidOf, uvCentroidOf};
 use answer::answer::Answer;
 use answer::answer::Refusal;
@@ -200,8 +201,8 @@ pub fn scale(
     uvs: &[f32],
     indices: &[u16],
 ) -> Answer
-    ensures answer { λ r. ⌜ r ≡ scaleAnswer counts by (four (now (vertices .entry)) (now (normals .entry)) (now (uvs .entry)) (now (indices .entry))) ⌝ }
-    ensures buffers { λ _. ⌜ four (now (vertices .exit)) (now (normals .entry)) (now (uvs .entry)) (now (indices .entry)) ≡ scaled counts by (four (now (vertices .entry)) (now (normals .entry)) (now (uvs .entry)) (now (indices .entry))) ⌝ }
+    ensures answer { λ r. ⌜ r ≡ scaleAnswer counts by (entering vertices normals uvs indices) ⌝ }
+    ensures buffers { λ _. ⌜ become (scaled counts by) vertices normals uvs indices ⌝ }
 {
     let good = answer::check::in_range3(by);
     let answer = answer_of(
@@ -230,8 +231,8 @@ pub fn offset(
     uvs: &[f32],
     indices: &[u16],
 ) -> Answer
-    ensures answer { λ r. ⌜ r ≡ offsetAnswer counts by (four (now (vertices .entry)) (now (normals .entry)) (now (uvs .entry)) (now (indices .entry))) ⌝ }
-    ensures buffers { λ _. ⌜ four (now (vertices .exit)) (now (normals .entry)) (now (uvs .entry)) (now (indices .entry)) ≡ shifted counts by (four (now (vertices .entry)) (now (normals .entry)) (now (uvs .entry)) (now (indices .entry))) ⌝ }
+    ensures answer { λ r. ⌜ r ≡ offsetAnswer counts by (entering vertices normals uvs indices) ⌝ }
+    ensures buffers { λ _. ⌜ become (shifted counts by) vertices normals uvs indices ⌝ }
 {
     let good = answer::check::in_range3(by);
     let answer = answer_of(
@@ -260,8 +261,8 @@ pub fn texture_scale(
     uvs: &mut [f32],
     indices: &[u16],
 ) -> Answer
-    ensures answer { λ r. ⌜ r ≡ textureScaleAnswer counts by (four (now (vertices .entry)) (now (normals .entry)) (now (uvs .entry)) (now (indices .entry))) ⌝ }
-    ensures buffers { λ _. ⌜ four (now (vertices .entry)) (now (normals .entry)) (now (uvs .exit)) (now (indices .entry)) ≡ textureScaled counts by (four (now (vertices .entry)) (now (normals .entry)) (now (uvs .entry)) (now (indices .entry))) ⌝ }
+    ensures answer { λ r. ⌜ r ≡ textureScaleAnswer counts by (entering vertices normals uvs indices) ⌝ }
+    ensures buffers { λ _. ⌜ become (textureScaled counts by) vertices normals uvs indices ⌝ }
 {
     let good = answer::check::in_range2(by);
     let answer = answer_of(
@@ -312,7 +313,7 @@ pub fn centroid(
     uvs: &[f32],
     indices: &[u16],
 ) -> CentroidAnswer
-    ensures { λ r. ⌜ r ≡ centroidOf counts (four (now (vertices .entry)) (now (normals .entry)) (now (uvs .entry)) (now (indices .entry))) ⌝ }
+    ensures { λ r. ⌜ r ≡ centroidOf counts (entering vertices normals uvs indices) ⌝ }
 {
     let answer = not_empty(answer_of(
         counts,
@@ -350,7 +351,7 @@ pub fn uv_centroid(
     uvs: &[f32],
     indices: &[u16],
 ) -> UvCentroidAnswer
-    ensures { λ r. ⌜ r ≡ uvCentroidOf counts (four (now (vertices .entry)) (now (normals .entry)) (now (uvs .entry)) (now (indices .entry))) ⌝ }
+    ensures { λ r. ⌜ r ≡ uvCentroidOf counts (entering vertices normals uvs indices) ⌝ }
 {
     let answer = not_empty(answer_of(
         counts,

@@ -10,11 +10,12 @@ use Rattle.face.specs.Vec.{v3, f0, f1}
 use Rattle.placement.specs.declared.placement.Choice3.the-variants as choice
 use Rattle.placement.specs.declared.placement.Turn.the-variants as turn
 use Rattle.placement.specs.declared.placement.Placement.{Placement}
+use Rattle.placement.specs.declared.placement.Stand.{Stand}
 use Rattle.placement.specs.Options.{marksMean, isTable, plainOptions, optionAt}
-use Rattle.placement.specs.Placing.{placed, placedNormal, halfTurned, placementInRange}
+use Rattle.placement.specs.Placing.{halfTurned, stood, stoodNormal, standBy, placementInRange}
 
 -- ---- the half turn of a cap's normal
-pub normal-half-turned : halfTurned (v3 f0 f1 f0) ≡ v3 (ofBits binary32 0x8000_0000) (ofBits binary32 0xbf80_0000) f0
+pub normal-half-turned : halfTurned true (v3 f0 f1 f0) ≡ v3 (ofBits binary32 0x8000_0000) (ofBits binary32 0xbf80_0000) f0
 unfolding ofBits neg
 normal-half-turned = refl
 
@@ -22,14 +23,18 @@ normal-half-turned = refl
 abbrev nowhere : Placement
 nowhere = record { scale = choice.Absent; turn = turn.Absent; offset = choice.Absent }
 
-pub absent-keeps : (p : Vec3) → (placed nowhere p ≡ p) × (placedNormal nowhere p ≡ p)
+-- a face of a job, by its placement alone
+abbrev by : Placement → Stand
+by s = standBy choice.Absent false s
+
+pub absent-keeps : (p : Vec3) → (stood (by nowhere) p ≡ p) × (stoodNormal (by nowhere) p ≡ p)
 absent-keeps p = (refl, refl)
 
 pub absent-passes : placementInRange nowhere ≡ true
 absent-passes = refl
 
 -- neither scale nor offset reaches a normal
-pub normal-unscaled : (s o n : Vec3) → placedNormal (record { scale = choice.With s; turn = turn.Absent; offset = choice.With o }) n ≡ n
+pub normal-unscaled : (s o n : Vec3) → stoodNormal (by (record { scale = choice.With s; turn = turn.Absent; offset = choice.With o })) n ≡ n
 normal-unscaled s o n = refl
 
 -- ---- 255 is the default, whatever the lists
@@ -56,6 +61,6 @@ marks-of-nothing = refl
 
 -- ---- the rows of the identity do not keep bits: they add +0 to -0
 pub identity-loses-minus-zero :
-    placed (record { scale = choice.Absent; turn = turn.Rows (v3 f1 f0 f0) (v3 f0 f1 f0) (v3 f0 f0 f1); offset = choice.Absent }) (v3 (ofBits binary32 0x8000_0000) f1 f1) ≡ v3 f0 f1 f1
+    stood (by (record { scale = choice.Absent; turn = turn.Rows (v3 f1 f0 f0) (v3 f0 f1 f0) (v3 f0 f0 f1); offset = choice.Absent })) (v3 (ofBits binary32 0x8000_0000) f1 f1) ≡ v3 f0 f1 f1
 unfolding ofBits add mul
 identity-loses-minus-zero = refl

@@ -1,4 +1,4 @@
 pub mod Bench
 pub mod Determined
-pub mod Plain
 mod Counting
+pub mod Shifts

@@ -2,11 +2,17 @@
 ghost use mathlib.Core.Path.{_≡_};
 ghost use Prim.Native.Nat.{_+_, _*_, _≤_};
 ghost use lib.ListN.{length};
-ghost use Rattle.placement.specs.Options.{entryCount, means, marksMean, isTable, insetOf, plainOptions, entryAt, optionAt};
+ghost use Rattle.placement.specs.Options.{entryCount, means, marksMean, isTable, insetOf, plainOptions, entryAt, optionAt, choiceNames, optionFor};
 use face::inset::Inset;
 use face::uv_mapping::Flip;
 use face::uv_mapping::UvOptions;
 use face::vec::Vec2;
+
+// The number of an option, or that the face is not there.
+pub enum Choice {
+    Absent,
+    With(u8),
+}
 
 pub struct FaceOptions {
     pub uv: UvOptions,
@@ -134,4 +140,24 @@ pub fn option_at(numbers: &[f32], marks: &[u8], number: u8) -> FaceOptions
         return no_options();
     }
     entry_at(numbers, marks, k)
+}
+
+// Whether a face that is there names an entry or the default.
+pub fn choice_names(c: Choice, entries: usize) -> bool
+    ensures { λ r. ⌜ r ≡ choiceNames c entries ⌝ }
+{
+    match c {
+        Choice::Absent => true,
+        Choice::With(k) => answer::check::names_option(k, entries),
+    }
+}
+
+// The option of a face; an absent one is never laid.
+pub fn option_for(c: Choice, numbers: &[f32], marks: &[u8]) -> FaceOptions
+    ensures { λ r. ⌜ r ≡ optionFor (now (numbers .entry)) (now (marks .entry)) c ⌝ }
+{
+    match c {
+        Choice::Absent => option_at(numbers, marks, 255),
+        Choice::With(k) => option_at(numbers, marks, k),
+    }
 }

@@ -1,11 +1,11 @@
-// Where a face stands: scaled, turned and moved, in this order, each if supplied.
+// Where a face stands. What a job supplies is made plain numbers once, and each point of a face goes through them as
+// it is laid.
 ghost use mathlib.Core.Path.{_≡_};
-ghost use mathlib.Core.List.{map};
-ghost use Rattle.placement.specs.Placing.{scaled, turned, moved, placed, placedNormal, halfTurned, placedQuad, placedHexagon, halfTurnedHexagon, placedPlainQuad, placedPlainHexagon, halfTurnedPlainHexagon, choiceInRange, turnInRange, placementInRange};
-use face::face::Hexagon;
-use face::face::Quad;
-use face::inset::InsetHexagon;
-use face::inset::InsetQuad;
+ghost use mathlib.Core.Bool.{_&&_};
+ghost use Rattle.answer.specs.Checks.{inRange3};
+ghost use Rattle.placement.specs.Speed.{shiftsAlone, shiftOf};
+ghost use Rattle.placement.specs.Placing.{ones, supplied, suppliedTurn, scaled, dot, turned, moved, halfTurned, stood, stoodNormal, standBy, settled, choiceInRange, turnInRange, placementInRange};
+use face::vec::Vec2;
 use face::vec::Vec3;
 
 pub enum Choice3 {
@@ -19,225 +19,199 @@ pub enum Turn {
     Rows(Vec3, Vec3, Vec3),
 }
 
+// Scale, turn and offset of a whole job, each if supplied.
 pub struct Placement {
     pub scale: Choice3,
     pub turn: Turn,
     pub offset: Choice3,
 }
 
-fn scale_by(scale: Choice3, p: Vec3) -> Vec3
-    ensures { λ r. ⌜ r ≡ scaled scale p ⌝ }
+// A choice in plain numbers. The compiler forms the products of an absent one too and drops them, so ones stand there:
+// whatever lay there before might be subnormal, which is slow.
+pub struct Supplied3 {
+    pub on: bool,
+    pub by: Vec3,
+}
+
+pub struct SuppliedTurn {
+    pub on: bool,
+    pub first: Vec3,
+    pub second: Vec3,
+    pub third: Vec3,
+}
+
+// All that moves a face: a first offset, a half turn, scale, turn and offset, in this order, each if it is so.
+pub struct Stand {
+    pub first: Supplied3,
+    pub half: bool,
+    pub scale: Supplied3,
+    pub turn: SuppliedTurn,
+    pub offset: Supplied3,
+}
+
+fn ones() -> Vec3
+    ensures { λ r. ⌜ r ≡ ones ⌝ }
 {
-    match scale {
-        Choice3::Absent => p,
-        Choice3::With(s) => Vec3 {
-            x: p.x * s.x,
-            y: p.y * s.y,
-            z: p.z * s.z,
-        },
+    Vec3 {
+        x: 1.0,
+        y: 1.0,
+        z: 1.0,
     }
 }
 
-fn turn_by(turn: Turn, p: Vec3) -> Vec3
-    ensures { λ r. ⌜ r ≡ turned turn p ⌝ }
+fn supply(choice: Choice3) -> Supplied3
+    ensures { λ r. ⌜ r ≡ supplied choice ⌝ }
+{
+    match choice {
+        Choice3::Absent => Supplied3 {
+            on: false,
+            by: ones(),
+        },
+        Choice3::With(v) => Supplied3 { on: true, by: v },
+    }
+}
+
+fn supply_turn(turn: Turn) -> SuppliedTurn
+    ensures { λ r. ⌜ r ≡ suppliedTurn turn ⌝ }
 {
     match turn {
-        Turn::Absent => p,
-        Turn::Rows(a, b, c) => Vec3 {
-            x: a.x * p.x + a.y * p.y + a.z * p.z,
-            y: b.x * p.x + b.y * p.y + b.z * p.z,
-            z: c.x * p.x + c.y * p.y + c.z * p.z,
+        Turn::Absent => SuppliedTurn {
+            on: false,
+            first: ones(),
+            second: ones(),
+            third: ones(),
+        },
+        Turn::Rows(a, b, c) => SuppliedTurn {
+            on: true,
+            first: a,
+            second: b,
+            third: c,
         },
     }
 }
 
-fn move_by(offset: Choice3, p: Vec3) -> Vec3
-    ensures { λ r. ⌜ r ≡ moved offset p ⌝ }
-{
-    match offset {
-        Choice3::Absent => p,
-        Choice3::With(o) => face::vec::add3(p, o),
-    }
-}
-
-fn shape(scale: Choice3, turn: Turn, p: Vec3) -> Vec3
-    ensures { λ r. ⌜ r ≡ turned turn (scaled scale p) ⌝ }
-{
-    turn_by(turn, scale_by(scale, p))
-}
-
-pub fn place_point(s: Placement, p: Vec3) -> Vec3
-    ensures { λ r. ⌜ r ≡ placed s p ⌝ }
+// How a face stands by a job's placement, after a first offset and a half turn of its own.
+pub fn stand_by(first: Choice3, half: bool, s: Placement) -> Stand
+    ensures { λ r. ⌜ r ≡ standBy first half s ⌝ }
 {
     let scale = s.scale;
     let turn = s.turn;
     let offset = s.offset;
-    move_by(offset, shape(scale, turn, p))
+    Stand {
+        first: supply(first),
+        half: half,
+        scale: supply(scale),
+        turn: supply_turn(turn),
+        offset: supply(offset),
+    }
 }
 
-// A normal is turned, and neither scaled nor moved.
-pub fn place_normal(s: Placement, n: Vec3) -> Vec3
-    ensures { λ r. ⌜ r ≡ placedNormal s n ⌝ }
+fn scale_by(s: Supplied3, p: Vec3) -> Vec3
+    ensures { λ r. ⌜ r ≡ scaled s p ⌝ }
 {
-    let scale = Choice3::Absent;
-    let turn = s.turn;
-    shape(scale, turn, n)
+    if s.on {
+        return Vec3 {
+            x: p.x * s.by.x,
+            y: p.y * s.by.y,
+            z: p.z * s.by.z,
+        };
+    }
+    p
+}
+
+fn dot(r: Vec3, p: Vec3) -> f32
+    ensures { λ x. ⌜ x ≡ dot r p ⌝ }
+{
+    r.x * p.x + r.y * p.y + r.z * p.z
+}
+
+fn turn_by(t: SuppliedTurn, p: Vec3) -> Vec3
+    ensures { λ r. ⌜ r ≡ turned t p ⌝ }
+{
+    if t.on {
+        return Vec3 {
+            x: dot(t.first, p),
+            y: dot(t.second, p),
+            z: dot(t.third, p),
+        };
+    }
+    p
+}
+
+fn move_by(s: Supplied3, p: Vec3) -> Vec3
+    ensures { λ r. ⌜ r ≡ moved s p ⌝ }
+{
+    if s.on {
+        return face::vec::add3(p, s.by);
+    }
+    p
 }
 
 // About the axis z, exactly.
-pub fn half_turn(p: Vec3) -> Vec3
-    ensures { λ r. ⌜ r ≡ halfTurned p ⌝ }
+fn half_turn(half: bool, p: Vec3) -> Vec3
+    ensures { λ r. ⌜ r ≡ halfTurned half p ⌝ }
 {
-    Vec3 {
-        x: -p.x,
-        y: -p.y,
-        z: p.z,
+    if half {
+        return Vec3 {
+            x: -p.x,
+            y: -p.y,
+            z: p.z,
+        };
     }
+    p
 }
 
-fn place_four(s: Placement, ps: [Vec3; 4]) -> [Vec3; 4]
-    ensures { λ r. ⌜ r ≡ map (placed s) ps ⌝ }
+pub fn stand_point(t: Stand, p: Vec3) -> Vec3
+    ensures { λ r. ⌜ r ≡ stood t p ⌝ }
 {
-    let mut out = ps;
-    for i in 0usize..4 {
-        out[i] = place_point(s, ps[i]);
-    }
-    out
+    let start = half_turn(t.half, move_by(t.first, p));
+    move_by(t.offset, turn_by(t.turn, scale_by(t.scale, start)))
 }
 
-fn place_six(s: Placement, ps: [Vec3; 6]) -> [Vec3; 6]
-    ensures { λ r. ⌜ r ≡ map (placed s) ps ⌝ }
+// Whether a face is neither turned nor scaled, as nearly every one is.
+pub fn is_shift(t: Stand) -> bool
+    ensures { λ r. ⌜ r ≡ shiftsAlone t ⌝ }
 {
-    let mut out = ps;
-    for i in 0usize..6 {
-        out[i] = place_point(s, ps[i]);
+    if t.half {
+        return false;
     }
-    out
+    if t.scale.on {
+        return false;
+    }
+    !t.turn.on
 }
 
-fn place_eight(s: Placement, ps: [Vec3; 8]) -> [Vec3; 8]
-    ensures { λ r. ⌜ r ≡ map (placed s) ps ⌝ }
+// Where a point of such a face stands.
+pub fn shift_point(t: Stand, p: Vec3) -> Vec3
+    ensures { λ r. ⌜ r ≡ shiftOf t p ⌝ }
 {
-    let mut out = ps;
-    for i in 0usize..8 {
-        out[i] = place_point(s, ps[i]);
-    }
-    out
+    move_by(t.offset, move_by(t.first, p))
 }
 
-fn place_twelve(s: Placement, ps: [Vec3; 12]) -> [Vec3; 12]
-    ensures { λ r. ⌜ r ≡ map (placed s) ps ⌝ }
+// A normal is turned, and neither scaled nor moved.
+pub fn stand_normal(t: Stand, n: Vec3) -> Vec3
+    ensures { λ r. ⌜ r ≡ stoodNormal t n ⌝ }
 {
-    let mut out = ps;
-    for i in 0usize..12 {
-        out[i] = place_point(s, ps[i]);
-    }
-    out
+    turn_by(t.turn, half_turn(t.half, n))
 }
 
-fn half_turn_six(ps: [Vec3; 6]) -> [Vec3; 6]
-    ensures { λ r. ⌜ r ≡ map halfTurned ps ⌝ }
+// The placement of a whole mesh: the position is always added, so that -0 becomes +0 wherever the sum is not of two -0.
+pub fn settle(s: Placement, at: Vec2) -> Placement
+    ensures { λ r. ⌜ r ≡ settled s at ⌝ }
 {
-    let mut out = ps;
-    for i in 0usize..6 {
-        out[i] = half_turn(ps[i]);
-    }
-    out
-}
-
-fn half_turn_twelve(ps: [Vec3; 12]) -> [Vec3; 12]
-    ensures { λ r. ⌜ r ≡ map halfTurned ps ⌝ }
-{
-    let mut out = ps;
-    for i in 0usize..12 {
-        out[i] = half_turn(ps[i]);
-    }
-    out
-}
-
-pub fn place_quad(s: Placement, q: InsetQuad) -> InsetQuad
-    ensures { λ r. ⌜ r ≡ placedQuad s q ⌝ }
-{
-    let ps = q.positions;
-    let positions = place_eight(s, ps);
-    let normal = place_normal(s, q.normal);
-    let uvs = q.uvs;
-    InsetQuad {
-        positions: positions,
-        normal: normal,
-        uvs: uvs,
-    }
-}
-
-pub fn place_hexagon(s: Placement, h: InsetHexagon) -> InsetHexagon
-    ensures { λ r. ⌜ r ≡ placedHexagon s h ⌝ }
-{
-    let ps = h.positions;
-    let positions = place_twelve(s, ps);
-    let normal = place_normal(s, h.normal);
-    let uvs = h.uvs;
-    InsetHexagon {
-        positions: positions,
-        normal: normal,
-        uvs: uvs,
-    }
-}
-
-// The positions and the normal turn; the uvs stay.
-pub fn half_turn_hexagon(h: InsetHexagon) -> InsetHexagon
-    ensures { λ r. ⌜ r ≡ halfTurnedHexagon h ⌝ }
-{
-    let ps = h.positions;
-    let positions = half_turn_twelve(ps);
-    let normal = half_turn(h.normal);
-    let uvs = h.uvs;
-    InsetHexagon {
-        positions: positions,
-        normal: normal,
-        uvs: uvs,
-    }
-}
-
-// A face without an inset, by itself: half the points.
-pub fn place_plain_quad(s: Placement, q: Quad) -> Quad
-    ensures { λ r. ⌜ r ≡ placedPlainQuad s q ⌝ }
-{
-    let ps = q.positions;
-    let positions = place_four(s, ps);
-    let normal = place_normal(s, q.normal);
-    let uvs = q.uvs;
-    Quad {
-        positions: positions,
-        normal: normal,
-        uvs: uvs,
-    }
-}
-
-pub fn place_plain_hexagon(s: Placement, h: Hexagon) -> Hexagon
-    ensures { λ r. ⌜ r ≡ placedPlainHexagon s h ⌝ }
-{
-    let ps = h.positions;
-    let positions = place_six(s, ps);
-    let normal = place_normal(s, h.normal);
-    let uvs = h.uvs;
-    Hexagon {
-        positions: positions,
-        normal: normal,
-        uvs: uvs,
-    }
-}
-
-pub fn half_turn_plain_hexagon(h: Hexagon) -> Hexagon
-    ensures { λ r. ⌜ r ≡ halfTurnedPlainHexagon h ⌝ }
-{
-    let ps = h.positions;
-    let positions = half_turn_six(ps);
-    let normal = half_turn(h.normal);
-    let uvs = h.uvs;
-    Hexagon {
-        positions: positions,
-        normal: normal,
-        uvs: uvs,
+    let scale = s.scale;
+    let turn = s.turn;
+    let offset = s.offset;
+    let spot = Vec3 {
+        x: at.x,
+        y: 0.0,
+        z: at.y,
+    };
+    let joined = move_by(supply(offset), spot);
+    Placement {
+        scale: scale,
+        turn: turn,
+        offset: Choice3::With(joined),
     }
 }
 
@@ -250,19 +224,23 @@ fn choice_in_range(choice: Choice3) -> bool
     }
 }
 
+fn rows_in_range(a: Vec3, b: Vec3, c: Vec3) -> bool
+    ensures { λ r. ⌜ r ≡ inRange3 a && (inRange3 b && inRange3 c) ⌝ }
+{
+    if answer::check::in_range3(a) {
+        if answer::check::in_range3(b) {
+            return answer::check::in_range3(c);
+        }
+    }
+    false
+}
+
 fn turn_in_range(turn: Turn) -> bool
     ensures { λ r. ⌜ r ≡ turnInRange turn ⌝ }
 {
     match turn {
         Turn::Absent => true,
-        Turn::Rows(a, b, c) => {
-            if answer::check::in_range3(a) {
-                if answer::check::in_range3(b) {
-                    return answer::check::in_range3(c);
-                }
-            }
-            false
-        }
+        Turn::Rows(a, b, c) => rows_in_range(a, b, c),
     }
 }
 

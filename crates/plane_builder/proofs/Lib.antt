@@ -1,2 +1,3 @@
+pub mod Caps
 pub mod Laws
 pub mod Determined

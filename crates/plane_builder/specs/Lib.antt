@@ -1,1 +1,2 @@
+pub mod Cap
 pub mod Plane

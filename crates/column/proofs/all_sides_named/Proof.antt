@@ -3,7 +3,8 @@ use borrow.Author.Needs.{needs}
 use mathlib.Core.Path.{sym, refl, _∙_}
 use Prim.Native.Nat.{_-_}
 use Rattle.answer.proofs.Laws.{Passed, passed-more, passed-not, passed-all}
-use Rattle.column.specs.Column.{noSide, choiceNames}
+use Rattle.placement.specs.Options.{choiceNames}
+use Rattle.column.specs.Column.{noSide}
 use Rattle.column.proofs.all_sides_named.Statement.{statement}
 use Rattle.column.proofs.all_sides_named.Tie as tie
 

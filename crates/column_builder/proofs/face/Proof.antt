@@ -31,7 +31,7 @@ face-spec =
     let a = c .before .before .before .before .before .before .before .before .before .before .before .before .before .before .before .args in
     let X = four (now (a .vertices)) (now (a .normals)) (now (a .uvs)) (now (a .indices)) in
     let ls = lists (now (a .pairs)) (now (a .corners)) (now (a .numbers)) (now (a .marks)) in
-    let e = sym (rw (c .before .before .before .before .name .ensures, c .before .before .before .before .before .face-count .ensures ∙ face-total (a .job) ls, c .before .before .before .before .before .before .plan .ensures) at (c .before .before .before .room .ensures)) ∙ c .before .answer .given .1 in
+    let e = sym (rw (c .before .before .before .before .name .ensures, c .before .before .before .before .before .face-count .ensures ∙ face-total (a .job) ls, c .before .before .before .before .before .before .plan .ensures) at (c .before .before .before .room .ensures)) ∙ c .before .roomed .given .1 in
     (sym e, after-refused (faceAnswer (a .job) ls (a .number) X) X _ e))
     (λ c. search needs)
     (λ c. search needs)
@@ -41,7 +41,7 @@ face-spec =
     let a = c .before .before .before .before .before .before .before .before .before .before .before .before .before .before .before .before .before .before .before .before .before .before .before .before .before .before .before .before .before .before .args in
     let X = four (now (a .vertices)) (now (a .normals)) (now (a .uvs)) (now (a .indices)) in
     let ls = lists (now (a .pairs)) (now (a .corners)) (now (a .numbers)) (now (a .marks)) in
-    let e = sym (rw (c .before .before .before .before .before .before .before .before .before .before .before .before .before .before .before .before .before .before .before .name .ensures, c .before .before .before .before .before .before .before .before .before .before .before .before .before .before .before .before .before .before .before .before .face-count .ensures ∙ face-total (a .job) ls, c .before .before .before .before .before .before .before .before .before .before .before .before .before .before .before .before .before .before .before .before .before .plan .ensures) at (c .before .before .before .before .before .before .before .before .before .before .before .before .before .before .before .before .before .before .room .ensures)) ∙ c .before .before .before .before .before .before .before .before .before .before .before .before .before .before .before .before .answer2 .given .1 in
+    let e = sym (rw (c .before .before .before .before .before .before .before .before .before .before .before .before .before .before .before .before .before .before .before .name .ensures, c .before .before .before .before .before .before .before .before .before .before .before .before .before .before .before .before .before .before .before .before .face-count .ensures ∙ face-total (a .job) ls, c .before .before .before .before .before .before .before .before .before .before .before .before .before .before .before .before .before .before .before .before .before .plan .ensures) at (c .before .before .before .before .before .before .before .before .before .before .before .before .before .before .before .before .before .before .room .ensures)) ∙ c .before .before .before .before .before .before .before .before .before .before .before .before .before .before .before .before .roomed2 .given .1 in
     let r = face-ready (a .job) ls (a .number) X _ e in
     let n = c .before .before .before .before .before .before .before .before .before .before .before .before .before .before .name-of .result in (
       sym e,

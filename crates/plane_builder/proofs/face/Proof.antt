@@ -1,12 +1,11 @@
 -- `face`: the plan, then the number, then the room, then the one face. Assumes nothing.
 use borrow.Author.Needs.{needs}
-use mathlib.Core.Path.{sym, _∙_}
+use mathlib.Core.Path.{ap, _∙_}
 use denote.Ref.{now}
-use Rattle.answer.proofs.Laws.{after-done, after-refused}
-use Rattle.buffers.specs.Mesh.{none}
-use Rattle.buffers.specs.Laying.{four, layOne}
-use Rattle.plane_builder.specs.Plane.{planeFaces, faceAnswer}
-use Rattle.plane_builder.proofs.Laws.{face-ready, face-laid}
+use Rattle.answer.specs.declared.answer.Answer.{Answer}
+use Rattle.buffers.specs.Laying.{four}
+use Rattle.plane_builder.specs.Plane.{lists, planeMesh, laidIfDone}
+use Rattle.plane_builder.proofs.Laws.{face-left}
 use Rattle.plane_builder.proofs.face.Statement.{statement}
 use Rattle.plane_builder.proofs.face.Tie as tie
 
@@ -17,24 +16,14 @@ face-spec =
     (λ c κs. search needs)
     (λ c κs. search needs)
     (λ c κs. search needs)
-    (λ c. search needs)
-    (λ c. search needs)
-    (λ c κs.
-    let a = c .before .before .before .before .before .before .before .before .before .before .before .before .before .before .before .before .before .args in
-    let B = four (now (a .vertices)) (now (a .normals)) (now (a .uvs)) (now (a .indices)) in
-    let e = sym (rw (c .before .before .before .before .before .before .before .before .name .ensures, c .before .before .before .before .before .before .before .before .before .plan .ensures) at (c .before .before .before .before .before .before .before .room .ensures)) ∙ c .before .before .before .before .before .answer2 .given .1 in
-    face-ready (a .job) (now (a .corners)) (now (a .numbers)) (now (a .marks)) B (a .number) _ e)
-    (λ c.
-    let a = c .before .before .before .before .before .before .before .before .before .before .before .before .before .args in
-    let B = four (now (a .vertices)) (now (a .normals)) (now (a .uvs)) (now (a .indices)) in
-    let e = sym (rw (c .before .before .before .before .name .ensures, c .before .before .before .before .before .plan .ensures) at (c .before .before .before .room .ensures)) ∙ c .before .answer .given .1 in
-    (sym e, after-refused (faceAnswer (a .job) (now (a .corners)) (now (a .numbers)) (now (a .marks)) (a .number) B) B (layOne (planeFaces (a .job) (now (a .corners)) (now (a .numbers)) (now (a .marks))) (a .number) none B) e))
+    (λ c κs. search needs)
     (λ c. search needs)
     (λ c. search needs)
     (λ c. search needs)
     (λ c. search needs)
     (λ c.
-    let a = c .before .before .before .before .before .before .before .before .before .before .before .before .before .before .before .before .before .before .before .before .before .before .before .before .before .before .args in
+    let a = c .before .before .before .before .before .before .before .before .before .before .before .before .before .before .before .before .before .before .before .before .before .before .before .args in
+    let ls = lists (now (a .corners)) (now (a .numbers)) (now (a .marks)) in
     let B = four (now (a .vertices)) (now (a .normals)) (now (a .uvs)) (now (a .indices)) in
-    let e = sym (rw (c .before .before .before .before .before .before .before .before .before .before .before .before .before .before .before .before .before .name .ensures, c .before .before .before .before .before .before .before .before .before .before .before .before .before .before .before .before .before .before .plan .ensures) at (c .before .before .before .before .before .before .before .before .before .before .before .before .before .before .before .before .room .ensures)) ∙ c .before .before .before .before .before .before .before .before .before .before .before .before .before .before .answer2 .given .1 in
-    (sym e, c .before .before .before .before .before .before .before .before .put .ensures ∙ face-laid (a .job) (now (a .corners)) (now (a .numbers)) (now (a .marks)) B (a .number) _ e ∙ after-done (faceAnswer (a .job) (now (a .corners)) (now (a .numbers)) (now (a .marks)) (a .number) B) B (layOne (planeFaces (a .job) (now (a .corners)) (now (a .numbers)) (now (a .marks))) (a .number) none B) e)))
+    let e = rw (c .before .before .before .before .before .before .before .before .before .before .before .before .before .before .name .ensures, c .before .before .before .before .before .before .before .before .before .before .before .before .before .before .before .plan .ensures) at (c .before .before .before .before .before .before .before .before .before .before .before .before .before .room .ensures) in
+    (e, c .before .before .before .before .before .before .before .before .put .ensures ∙ ap (λ (x : Answer). laidIfDone x (planeMesh (a .job) ls) B) e ∙ face-left (a .job) ls B (a .number))))

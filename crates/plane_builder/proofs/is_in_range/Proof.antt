@@ -1,4 +1,4 @@
--- `is_in_range`: the corners, then the table and the place. Assumes nothing.
+-- `is_in_range`: the corners, then the table, then the place. Assumes nothing.
 use borrow.Author.Needs.{needs}
 use mathlib.Core.Path.{sym, _∙_}
 use Rattle.plane_builder.proofs.is_in_range.Statement.{statement}
@@ -10,5 +10,7 @@ is-in-range-spec =
     (tie.spec
     (λ c κs. search needs)
     (λ c κs. search needs)
-    (λ c. rw (sym (c .before .before .all-in-range .ensures) ∙ c .before .if1 .taken) (c .is-filled .ensures))
+    (λ c κs. search needs)
+    (λ c. rw (sym (c .before .before .before .before .all-in-range .ensures) ∙ c .before .before .before .if1 .taken, sym (c .before .before .all-in-range2 .ensures) ∙ c .before .if2 .taken) (c .is-place .ensures))
+    (λ c. rw (sym (c .before .before .before .all-in-range .ensures) ∙ c .before .before .if1 .taken, sym (c .before .all-in-range2 .ensures) ∙ c .if2 .left))
     (λ c. rw (sym (c .before .all-in-range .ensures) ∙ c .if1 .left)))

@@ -3,8 +3,8 @@ use borrow.Author.Needs.{needs}
 use mathlib.Core.Path.{sym, _∙_}
 use denote.Ref.{now}
 use Rattle.buffers.specs.Laying.{four}
-use Rattle.buffers.specs.Faces.{quadMesh}
-use Rattle.buffers.proofs.Faces.{quad-size, laid-so, laid-not, sized}
+use Rattle.buffers.specs.Faces.{quadMesh, standing}
+use Rattle.buffers.proofs.Faces.{quad-size, standing-size, laid-so, laid-not, sized}
 use Rattle.buffers.proofs.laying.lay_quad.Statement.{statement}
 use Rattle.buffers.proofs.laying.lay_quad.Tie as tie
 
@@ -22,10 +22,10 @@ lay-quad-spec =
     (λ c.
     let a = c .before .before .before .before .before .before .before .before .before .before .before .before .before .before .before .before .before .before .before .before .args in
     let B = four (now (a .vertices)) (now (a .normals)) (now (a .uvs)) (now (a .indices)) in
-    let e = sized (quadMesh (a .how) (a .q)) (a .at) B _ _ _ _ (c .before .before .before .before .before .before .before .before .before .before .before .before .before .before .before .quad-counts .ensures) (quad-size (a .how) (a .q)) (c .before .before .before .before .before .before .before .before .before .before .before .before .before .before .has-room .ensures) (c .before .before .before .before .before .before .before .before .before .before .before .before .before .if1 .taken) in
+    let e = sized (standing (a .t) (quadMesh (a .how) (a .q))) (a .at) B _ _ _ _ (c .before .before .before .before .before .before .before .before .before .before .before .before .before .before .before .quad-counts .ensures) (standing-size (a .t) (quadMesh (a .how) (a .q)) ∙ quad-size (a .how) (a .q)) (c .before .before .before .before .before .before .before .before .before .before .before .before .before .before .has-room .ensures) (c .before .before .before .before .before .before .before .before .before .before .before .before .before .if1 .taken) in
     (sym e, c .before .before .before .before .before .before .before .before .put-quad .ensures ∙ laid-so _ (a .at) B e))
     (λ c.
     let a = c .before .before .before .before .before .before .before .args in
     let B = four (now (a .vertices)) (now (a .normals)) (now (a .uvs)) (now (a .indices)) in
-    let e = sized (quadMesh (a .how) (a .q)) (a .at) B _ _ _ _ (c .before .before .quad-counts .ensures) (quad-size (a .how) (a .q)) (c .before .has-room .ensures) (c .if1 .left) in
-    (sym e, laid-not (quadMesh (a .how) (a .q)) (a .at) B e)))
+    let e = sized (standing (a .t) (quadMesh (a .how) (a .q))) (a .at) B _ _ _ _ (c .before .before .quad-counts .ensures) (standing-size (a .t) (quadMesh (a .how) (a .q)) ∙ quad-size (a .how) (a .q)) (c .before .has-room .ensures) (c .if1 .left) in
+    (sym e, laid-not (standing (a .t) (quadMesh (a .how) (a .q))) (a .at) B e)))

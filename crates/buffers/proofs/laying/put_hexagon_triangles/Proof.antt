@@ -13,7 +13,7 @@ use Rattle.buffers.proofs.laying.put_hexagon_triangles.Statement.{state
 use Rattle.buffers.proofs.laying.put_hexagon_triangles.Tie as tie
 
 abbrev Inv : tie.InvT-loop
-Inv buffer₀ at how b m k₀ buffer k = Laying (λ j. corners b (getD (insetTriangles how 6 hexagonTriangles) j noTriangle)) m buffer₀ at k buffer
+Inv buffer₀ at how b m k₀ buffer k = Laying (λ j. corners (b .0) (getD (insetTriangles how 6 hexagonTriangles) j noTriangle)) m buffer₀ (at .0) k buffer
 
 abbrev μ : tie.MeasureT-loop
 μ buffer₀ at how b m k₀ buffer k = m - k
@@ -25,14 +25,14 @@ put-hexagon-triangles-spec =
     Inv
     μ
     (λ c. (omega arith, refl, sym (laid-nothing _ _)))
-    (λ c. search needs)
-    (λ c. search needs)
     (λ c κs. search needs)
+    (λ c. search needs)
+    (λ c. search needs)
     (λ c κs.
-    let p = c .before .before .before .before .before .pre in
-    (search needs, numbered _ _ _ _ (c .hexagon-triangle .ensures) (hexagon-indices-below (c .before .before .before .before .before .args .how) (c .before .before .before .loop .k) (omega (arith, p .0 .0, c .before .before .loop-test .taken))) (p .1 .0)))
+    let p = c .before .before .before .before .before .before .pre in
+    (search needs, numbered _ _ _ _ (c .before .before .hexagon-triangle .ensures) (hexagon-indices-below (c .before .before .before .before .before .before .args .how) (c .before .before .before .before .loop .k) (omega (arith, p .0 .0, c .before .before .before .loop-test .taken))) (p .1 .0)))
     (λ c. search needs)
     (λ c. search needs)
-    (λ c. laying-more _ 3 (λ k. refl) _ _ _ _ _ _ (c .before .before .before .before .before .before .loop .inv) (c .before .before .before .before .before .loop-test .taken) (rw (c .before .before .before .hexagon-triangle .ensures) at (c .before .before .put-corners .ensures)))
+    (λ c. laying-more _ 3 (λ k. refl) _ _ _ _ _ _ (c .before .before .before .before .before .before .before .loop .inv) (c .before .before .before .before .before .before .loop-test .taken) (rw (c .before .before .before .before .before .hexagon-triangle .ensures) at (c .before .before .put-corners .ensures)))
     (λ c. search needs)
     (λ c. laying-done _ _ _ _ _ _ (c .before .loop .inv) (c .loop-test .left)))

@@ -15,37 +15,38 @@ put-quad-spec =
     tie.close
     (tie.spec
     (λ c κs. search needs)
+    (λ c κs. search needs)
     (λ c.
-    let a = c .before .before .before .before .before .before .before .before .args in
-    let w = written (a .how) 4 quadTriangles (a .at) (c .before .before .before .quad-counts .result) (four (now (a .vertices)) (now (a .normals)) (now (a .uvs)) (now (a .indices))) (c .before .before .before .quad-counts .ensures) (c .before .before .before .before .before .before .before .before .pre) in
+    let a = c .before .before .before .before .before .before .before .before .before .args in
+    let w = written (a .how) 4 quadTriangles (a .at) (c .before .before .before .quad-counts .result) (four (now (a .vertices)) (now (a .normals)) (now (a .uvs)) (now (a .indices))) (c .before .before .before .quad-counts .ensures) (c .before .before .before .before .before .before .before .before .before .pre) in
     omega (arith, w .limit))
     (λ c κs.
-    let a = c .before .before .before .before .before .before .before .before .args in
-    let w = written (a .how) 4 quadTriangles (a .at) (c .before .before .before .quad-counts .result) (four (now (a .vertices)) (now (a .normals)) (now (a .uvs)) (now (a .indices))) (c .before .before .before .quad-counts .ensures) (c .before .before .before .before .before .before .before .before .pre) in
+    let a = c .before .before .before .before .before .before .before .before .before .args in
+    let w = written (a .how) 4 quadTriangles (a .at) (c .before .before .before .quad-counts .result) (four (now (a .vertices)) (now (a .normals)) (now (a .uvs)) (now (a .indices))) (c .before .before .before .quad-counts .ensures) (c .before .before .before .before .before .before .before .before .before .pre) in
     (w .few, w .vertices))
     (λ c.
-    let a = c .before .before .before .before .before .before .before .before .before .before .before .before .args in
-    let w = written (a .how) 4 quadTriangles (a .at) (c .before .before .before .before .before .before .before .quad-counts .result) (four (now (a .vertices)) (now (a .normals)) (now (a .uvs)) (now (a .indices))) (c .before .before .before .before .before .before .before .quad-counts .ensures) (c .before .before .before .before .before .before .before .before .before .before .before .before .pre) in
+    let a = c .before .before .before .before .before .before .before .before .before .before .before .before .before .args in
+    let w = written (a .how) 4 quadTriangles (a .at) (c .before .before .before .before .before .before .before .quad-counts .result) (four (now (a .vertices)) (now (a .normals)) (now (a .uvs)) (now (a .indices))) (c .before .before .before .before .before .before .before .quad-counts .ensures) (c .before .before .before .before .before .before .before .before .before .before .before .before .before .pre) in
     omega (arith, w .limit))
     (λ c κs.
-    let a = c .before .before .before .before .before .before .before .before .before .before .before .before .args in
-    let w = written (a .how) 4 quadTriangles (a .at) (c .before .before .before .before .before .before .before .quad-counts .result) (four (now (a .vertices)) (now (a .normals)) (now (a .uvs)) (now (a .indices))) (c .before .before .before .before .before .before .before .quad-counts .ensures) (c .before .before .before .before .before .before .before .before .before .before .before .before .pre) in
+    let a = c .before .before .before .before .before .before .before .before .before .before .before .before .before .args in
+    let w = written (a .how) 4 quadTriangles (a .at) (c .before .before .before .before .before .before .before .quad-counts .result) (four (now (a .vertices)) (now (a .normals)) (now (a .uvs)) (now (a .indices))) (c .before .before .before .before .before .before .before .quad-counts .ensures) (c .before .before .before .before .before .before .before .before .before .before .before .before .before .pre) in
     (omega (arith, w .few), w .normals))
     (λ c.
-    let a = c .before .before .before .before .before .before .before .before .before .before .before .before .before .before .before .before .args in
-    let w = written (a .how) 4 quadTriangles (a .at) (c .before .before .before .before .before .before .before .before .before .before .before .quad-counts .result) (four (now (a .vertices)) (now (a .normals)) (now (a .uvs)) (now (a .indices))) (c .before .before .before .before .before .before .before .before .before .before .before .quad-counts .ensures) (c .before .before .before .before .before .before .before .before .before .before .before .before .before .before .before .before .pre) in
+    let a = c .before .before .before .before .before .before .before .before .before .before .before .before .before .before .before .before .before .args in
+    let w = written (a .how) 4 quadTriangles (a .at) (c .before .before .before .before .before .before .before .before .before .before .before .quad-counts .result) (four (now (a .vertices)) (now (a .normals)) (now (a .uvs)) (now (a .indices))) (c .before .before .before .before .before .before .before .before .before .before .before .quad-counts .ensures) (c .before .before .before .before .before .before .before .before .before .before .before .before .before .before .before .before .before .pre) in
     omega (arith, w .limit))
     (λ c κs.
-    let a = c .before .before .before .before .before .before .before .before .before .before .before .before .before .before .before .before .args in
-    let w = written (a .how) 4 quadTriangles (a .at) (c .before .before .before .before .before .before .before .before .before .before .before .quad-counts .result) (four (now (a .vertices)) (now (a .normals)) (now (a .uvs)) (now (a .indices))) (c .before .before .before .before .before .before .before .before .before .before .before .quad-counts .ensures) (c .before .before .before .before .before .before .before .before .before .before .before .before .before .before .before .before .pre) in
+    let a = c .before .before .before .before .before .before .before .before .before .before .before .before .before .before .before .before .before .args in
+    let w = written (a .how) 4 quadTriangles (a .at) (c .before .before .before .before .before .before .before .before .before .before .before .quad-counts .result) (four (now (a .vertices)) (now (a .normals)) (now (a .uvs)) (now (a .indices))) (c .before .before .before .before .before .before .before .before .before .before .before .quad-counts .ensures) (c .before .before .before .before .before .before .before .before .before .before .before .before .before .before .before .before .before .pre) in
     (w .few, w .uvs))
     (λ c κs.
-    let a = c .before .before .before .before .before .before .before .before .before .before .before .before .before .before .before .before .before .before .before .before .before .args in
-    let w = written (a .how) 4 quadTriangles (a .at) (c .before .before .before .before .before .before .before .before .before .before .before .before .before .before .before .before .quad-counts .result) (four (now (a .vertices)) (now (a .normals)) (now (a .uvs)) (now (a .indices))) (c .before .before .before .before .before .before .before .before .before .before .before .before .before .before .before .before .quad-counts .ensures) (c .before .before .before .before .before .before .before .before .before .before .before .before .before .before .before .before .before .before .before .before .before .pre) in
+    let a = c .before .before .before .before .before .before .before .before .before .before .before .before .before .before .before .before .before .before .before .before .before .before .args in
+    let w = written (a .how) 4 quadTriangles (a .at) (c .before .before .before .before .before .before .before .before .before .before .before .before .before .before .before .before .quad-counts .result) (four (now (a .vertices)) (now (a .normals)) (now (a .uvs)) (now (a .indices))) (c .before .before .before .before .before .before .before .before .before .before .before .before .before .before .before .before .quad-counts .ensures) (c .before .before .before .before .before .before .before .before .before .before .before .before .before .before .before .before .before .before .before .before .before .before .pre) in
     ((w .third, w .most), (w .limit, w .indices)))
     (λ c. search needs)
     (λ c. search needs)
     (λ c. search needs)
     (λ c. search needs)
     (λ c.
-    rw (c .before .before .before .before .before .before .before .before .before .before .before .before .before .before .before .before .before .before .before .quad-counts .ensures) at (same-four (c .before .before .before .before .before .before .before .before .before .before .before .before .before .before .before .put-eight .ensures) (c .before .before .before .before .before .before .before .before .before .before .before .put-normals .ensures) (c .before .before .before .before .before .before .before .put-eight-uvs .ensures) (c .before .before .put-quad-triangles .ensures)) ∙ sym (quad-laid _ _ _ _)))
+    rw (c .before .before .before .before .before .before .before .before .before .before .before .before .before .before .before .before .before .before .before .quad-counts .ensures, c .before .before .before .before .before .before .before .before .before .before .before .before .before .before .before .before .before .before .before .before .stand-normal .ensures) at (same-four (c .before .before .before .before .before .before .before .before .before .before .before .before .before .before .before .put-eight .ensures) (c .before .before .before .before .before .before .before .before .before .before .before .put-normals .ensures) (c .before .before .before .before .before .before .before .put-eight-uvs .ensures) (c .before .before .put-quad-triangles .ensures)) ∙ sym (quad-laid (c .before .before .before .before .before .before .before .before .before .before .before .before .before .before .before .before .before .before .before .before .before .before .before .before .before .args .t) _ _ _ _)))

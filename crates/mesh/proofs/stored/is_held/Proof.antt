@@ -1,6 +1,6 @@
 -- `is_held`: each test of a quotient is that of a product. Assumes nothing.
 use native.Mathlib.Omega.{arith}
-use Rattle.answer.proofs.Laws.{fits, short}
+use Rattle.answer.proofs.Laws.{roomy, short}
 use Rattle.mesh.proofs.stored.is_held.Statement.{statement}
 use Rattle.mesh.proofs.stored.is_held.Tie as tie
 
@@ -9,6 +9,6 @@ is-held-spec =
     tie.close
     (tie.spec
     (λ c. simp (short 3 _ _ (omega arith) (c .if1 .taken)))
-    (λ c. simp (fits 3 _ _ (omega arith) (c .before .if1 .left), short 3 _ _ (omega arith) (c .if2 .taken)))
-    (λ c. simp (fits 3 _ _ (omega arith) (c .before .before .if1 .left), fits 3 _ _ (omega arith) (c .before .if2 .left), short 2 _ _ (omega arith) (c .if3 .taken)))
-    (λ c. simp (fits 3 _ _ (omega arith) (c .before .before .before .if1 .left), fits 3 _ _ (omega arith) (c .before .before .if2 .left), fits 2 _ _ (omega arith) (c .before .if3 .left))))
+    (λ c. simp (roomy 3 _ _ (omega arith) (c .before .if1 .left), short 3 _ _ (omega arith) (c .if2 .taken)))
+    (λ c. simp (roomy 3 _ _ (omega arith) (c .before .before .if1 .left), roomy 3 _ _ (omega arith) (c .before .if2 .left), short 2 _ _ (omega arith) (c .if3 .taken)))
+    (λ c. simp (roomy 3 _ _ (omega arith) (c .before .before .before .if1 .left), roomy 3 _ _ (omega arith) (c .before .before .if2 .left), roomy 2 _ _ (omega arith) (c .before .if3 .left))))

@@ -7,8 +7,6 @@ pub move-by-spec : {M : Type 1} → statement M
 move-by-spec =
     tie.close
     (tie.spec
-    (λ c. search needs)
-    (λ c. search needs)
     (λ c κs. search needs)
-    (λ c. search needs)
-    (λ c. rw (c .before .before .offset .given .1) (c .add3 .ensures)))
+    (λ c. rw (c .before .if1 .taken) (c .add3 .ensures))
+    (λ c. search needs))

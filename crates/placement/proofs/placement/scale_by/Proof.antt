@@ -7,7 +7,5 @@ pub scale-by-spec : {M : Type 1} → statement M
 scale-by-spec =
     tie.close
     (tie.spec
-    (λ c. search needs)
-    (λ c. search needs)
-    (λ c. search needs)
-    (λ c. rw (c .before .before .before .before .before .before .before .scale .given .1)))
+    (λ c. rw (c .before .before .before .before .before .before .if1 .taken))
+    (λ c. search needs))

@@ -1,6 +1,5 @@
--- `turn_in_range`: one row after the other. Assumes nothing.
+-- `turn_in_range`: its two cases. Assumes nothing.
 use borrow.Author.Needs.{needs}
-use mathlib.Core.Path.{sym, _∙_}
 use Rattle.placement.proofs.placement.turn_in_range.Statement.{statement}
 use Rattle.placement.proofs.placement.turn_in_range.Tie as tie
 
@@ -11,9 +10,5 @@ turn-in-range-spec =
     (λ c. search needs)
     (λ c. search needs)
     (λ c κs. search needs)
-    (λ c κs. search needs)
-    (λ c κs. search needs)
-    (λ c. rw (c .before .before .before .before .before .before .turn .given .1, sym (c .before .before .before .before .in-range3 .ensures) ∙ c .before .before .before .if1 .taken, sym (c .before .before .in-range32 .ensures) ∙ c .before .if2 .taken) (c .in-range33 .ensures))
     (λ c. search needs)
-    (λ c. rw (c .before .before .before .before .before .turn .given .1, sym (c .before .before .before .in-range3 .ensures) ∙ c .before .before .if1 .taken, sym (c .before .in-range32 .ensures) ∙ c .if2 .left))
-    (λ c. rw (c .before .before .before .turn .given .1, sym (c .before .in-range3 .ensures) ∙ c .if1 .left)))
+    (λ c. rw (c .before .before .turn .given .1) (c .rows-in-range .ensures)))

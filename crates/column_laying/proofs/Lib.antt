@@ -1,3 +1,0 @@
-pub mod Determined
-mod Named
-pub mod Whole
