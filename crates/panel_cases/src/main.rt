@@ -27,7 +27,7 @@ fn find(text: &[u8], from: usize, byte: u8) -> usize
 }
 
 // One place further, unless the text ends.
-fn after(at: usize, end: usize) -> usize
+fn one_further(at: usize, end: usize) -> usize
     requires { ⌜ at ≤ end ⌝ }
     ensures { λ r. ⌜ (at ≤ r) × (r ≤ end) ⌝ }
 {
@@ -37,29 +37,29 @@ fn after(at: usize, end: usize) -> usize
     at
 }
 
-// Tells the case at a place, and answers where the next one starts. A name has one byte at least.
-fn tell_case(text: &[u8], at: usize) -> usize
+// Prints the answer to the case at a place, and returns where the next one starts. A name has one byte at least.
+fn answer_case(text: &[u8], at: usize) -> usize
     requires { ⌜ at < length (now text) ⌝ }
     ensures { λ r. ⌜ (at < r) × (r ≤ length (now (text .entry))) ⌝ }
 {
-    let named = find(text, at + 1, b'\n');
-    let start = after(named, text.len());
+    let name_end = find(text, at + 1, b'\n');
+    let start = one_further(name_end, text.len());
     let end = find(text, start, MARK);
-    show::tell(&text[at..named], &text[start..end]);
+    show::print_case(&text[at..name_end], &text[start..end]);
     let next = find(text, end, b'\n');
-    after(next, text.len())
+    one_further(next, text.len())
 }
 
-fn tell_all(text: &[u8]) {
+fn answer_all(text: &[u8]) {
     let mut at = 0;
     while at < text.len() {
-        at = tell_case(text, at);
+        at = answer_case(text, at);
     }
 }
 
 fn main() {
     let mut text = [0u8; ROOM];
     let n = io::read_full(0, &mut text);
-    tell_all(&text[..n]);
+    answer_all(&text[..n]);
     show::short_buffers();
 }

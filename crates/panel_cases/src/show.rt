@@ -23,7 +23,7 @@ fn print(answer: &[u8]) {
     }
 }
 
-pub(crate) fn tell(name: &[u8], sheet: &[u8]) {
+pub(crate) fn print_case(name: &[u8], sheet: &[u8]) {
     let mut out = [0u8; 98432];
     let n = sheet::write_answer(sheet, &mut out);
     io::write_all(1, name);

@@ -1,15 +1,17 @@
 -- A mesh's text speaks of the places that its counts reach alone. Assumes nothing.
-use mathlib.Core.Path.{_≡_, refl, ap, ap₂, _∙_}
+use mathlib.Core.Path.{_≡_, refl, ap, ap₂}
 use mathlib.Core.List.{List, [], _∷_, _++_}
 use Prim.Native.Nat.{ℕ, zero, suc, _*_, _<_}
 use native.Mathlib.Omega.{arith}
 use lib.ListN.{getD}
 use lib.Ieee.{Float, nan}
 use Rattle.face.specs.Lists.{chain}
-use Rattle.mesh_text.specs.Digits.{hexDigits, decimal}
-use Rattle.mesh_text.specs.Text.{bitsOf, gap, floatWord, indexWord, floatLines, indexLines, meshText}
+use Rattle.face.specs.declared.triangle.Counts.{Counts}
+use Rattle.buffers.specs.Laying.{Buffers}
+use Rattle.sheet.specs.Digits.{hexDigits, decimal, gap}
+use Rattle.sheet.specs.Meshes.{bitsOf, floatWord, indexWord, floatLines, indexLines, meshText}
 
-chain-alike : {A : Type 0} (f g : ℕ → List A) (n : ℕ) → ((k : ℕ) → k < n → f k ≡ g k) → chain f n ≡ chain g n
+pub chain-alike : {A : Type 0} (f g : ℕ → List A) (n : ℕ) → ((k : ℕ) → k < n → f k ≡ g k) → chain f n ≡ chain g n
 chain-alike f g zero h = refl
 chain-alike f g (suc n) h = ap₂ (λ x y. x ++ y) (chain-alike f g n (λ k u. h k (omega arith))) (h n (omega arith))
 
@@ -25,7 +27,14 @@ index-lines-alike : (n : ℕ) (xs ys : List ℕ) → Alike 0 n xs ys → indexLi
 unfolding indexLines
 index-lines-alike n xs ys h = chain-alike (indexWord xs) (indexWord ys) n (λ k u. ap (λ (x : ℕ). decimal x ++ (gap 3 k ∷ [])) (h k u))
 
-pub mesh-alike : (v i : ℕ) (vs vs′ ns ns′ ts ts′ : List Float) (is is′ : List ℕ) → Alike nan (3 * v) vs vs′ → Alike nan (3 * v) ns ns′ → Alike nan (2 * v) ts ts′ → Alike 0 i is is′ → meshText vs ns ts is v i ≡ meshText vs′ ns′ ts′ is′ v i
+pub record AlikeTo (c : Counts) (B C : Buffers) : Type 0 where
+  pub vertices : Alike nan (3 * c .vertices .0) (B .vertices) (C .vertices)
+  pub normals : Alike nan (3 * c .vertices .0) (B .normals) (C .normals)
+  pub uvs : Alike nan (2 * c .vertices .0) (B .uvs) (C .uvs)
+  pub indices : Alike 0 (c .indices .0) (B .indices) (C .indices)
+
+pub mesh-alike : (c : Counts) (B C : Buffers) → AlikeTo c B C → meshText B c ≡ meshText C c
 unfolding meshText
-mesh-alike v i vs vs′ ns ns′ ts ts′ is is′ a b c d =
-    rw (float-lines-alike 3 (3 * v) vs vs′ a, float-lines-alike 3 (3 * v) ns ns′ b, float-lines-alike 2 (2 * v) ts ts′ c, index-lines-alike i is is′ d)
+mesh-alike c B C h =
+    let v : ℕ = c .vertices .0 in
+    rw (float-lines-alike 3 (3 * v) (B .vertices) (C .vertices) (h .vertices), float-lines-alike 3 (3 * v) (B .normals) (C .normals) (h .normals), float-lines-alike 2 (2 * v) (B .uvs) (C .uvs) (h .uvs), index-lines-alike (c .indices .0) (B .indices) (C .indices) (h .indices))

@@ -1,11 +1,10 @@
 -- The text that a sheet is answered with; P1 to P9 and R9 are rows of docs/TRACE.md. Definitions only.
-use Prim.Native.Nat.{ℕ, _*_}
-use mathlib.Core.Bool.{Bool}
+use Prim.Native.Nat.{ℕ}
+use mathlib.Core.Bool.{Bool, cond}
 use mathlib.Core.List.{List, [], map}
-use lib.ListN.{length}
 use lib.Dec.{leb, ltb}
 use lib.Ieee.{Float, binary32, ofBits}
-use Rattle.face.specs.Lists.{pick, each}
+use Rattle.face.specs.Lists.{each}
 use Rattle.face.specs.Vec.{zero2}
 use Rattle.answer.specs.declared.answer.Buffer.the-variants.{Vertices}
 use Rattle.answer.specs.declared.answer.Refusal.the-variants.{Room}
@@ -13,21 +12,21 @@ use Rattle.answer.specs.declared.answer.Refusal.the-variants as refusal
 use Rattle.answer.specs.declared.answer.Answer.{Answer}
 use Rattle.answer.specs.declared.answer.Answer.the-variants.{Done, Refused}
 use Rattle.answer.specs.Answers.{code, given}
+use Rattle.placement.specs.declared.options.Choice.{Choice}
+use Rattle.placement.specs.declared.options.Choice.the-variants as option
 use Rattle.placement.specs.declared.placement.Choice3.the-variants as choice
 use Rattle.placement.specs.declared.placement.Turn.the-variants as turn
 use Rattle.placement.specs.declared.placement.Placement.{Placement}
-use Rattle.buffers.specs.Mesh.{Mesh, joined}
+use Rattle.buffers.specs.Mesh.{Mesh, sizeOf, joined}
 use Rattle.buffers.specs.Laying.{Buffers, four, three, two, corners, spread}
 use Rattle.column.specs.declared.Subdivisions.the-variants as subdivisions
-use Rattle.column.specs.declared.Choice.{Choice}
-use Rattle.column.specs.declared.Choice.the-variants as option
 use Rattle.column.specs.declared.Side.{Side}
 use Rattle.column.specs.declared.Column.{Column}
 use Rattle.column.specs.Column.{Lists, lists, columnFaces, planned}
-use Rattle.mesh_text.specs.Text.{meshText, refusalText, Written}
-use Rattle.sheet_reading.specs.declared.Sheet.{Sheet}
-use Rattle.sheet_reading.specs.declared.Reading.{Reading}
-use Rattle.sheet_reading.specs.Readers.{reading}
+use Rattle.sheet.specs.declared.reading.Sheet.{Sheet}
+use Rattle.sheet.specs.declared.reading.Reading.{Reading}
+use Rattle.sheet.specs.Readers.{reading}
+use Rattle.sheet.specs.Meshes.{meshText, refusalText, TextWritten}
 
 -- ---- the column of a sheet
 -- P2: the numbers of patterns; every NaN's is the one NaN, which is out of range
@@ -36,7 +35,7 @@ floats = map (ofBits binary32)
 
 -- P5: the default option, where there is a face at all
 abbrev pub plainIf : Bool → Choice
-plainIf there = pick there (option.With 255) option.Absent
+plainIf there = cond there (option.With 255) option.Absent
 
 -- P4: sides 0 to n - 1
 abbrev pub sidesOf : ℕ → List Side
@@ -78,27 +77,24 @@ flat m =
 
 -- P9
 abbrev pub textOf : Mesh → List ℕ
-textOf m = meshText (flat m .vertices) (flat m .normals) (flat m .uvs) (flat m .indices) (length (m .vertices)) (3 * length (m .triangles))
+textOf m = meshText (flat m) (sizeOf m)
 
 -- P8: `refused N`, or the mesh
-abbrev pub told : Answer → Mesh → List ℕ
-told (Refused e) m = refusalText (code e)
-told (Done c) m = textOf m
+abbrev pub textFor : Answer → Mesh → List ℕ
+textFor (Refused e) m = refusalText (code e)
+textFor (Done c) m = textOf m
 
 -- the mesh is the column's faces end to end
 unfoldable pub columnText : Column → Lists → List ℕ
-columnText job ls = told (printable (planned job ls)) (joined (columnFaces job ls))
+columnText job ls = textFor (printable (planned job ls)) (joined (columnFaces job ls))
 
 -- R9, P6: what does not read is 9, before anything else
 abbrev pub readingText : Reading → List ℕ
-readingText r = pick (r .good) (columnText (columnOf (r .sheet)) (listsOf (r .sheet))) (refusalText (code refusal.Sheet))
+readingText r = cond (r .good) (columnText (columnOf (r .sheet)) (listsOf (r .sheet))) (refusalText (code refusal.Sheet))
 
 unfoldable pub answerText : List ℕ → List ℕ
 answerText bytes = readingText (reading bytes)
 
--- a text at the start of a buffer, with its length as the answer; where it does not fit, nothing, and 0
-abbrev pub Told : List ℕ → List ℕ → List ℕ → ℕ → Type 0
-Told text old = Written (leb (length text) (length old)) text old
-
+-- at the start of a buffer, where there is room for it
 abbrev pub Answered : List ℕ → List ℕ → List ℕ → ℕ → Type 0
-Answered bytes = Told (answerText bytes)
+Answered bytes = TextWritten (answerText bytes)

@@ -1,24 +1,33 @@
-// The bytes of a sheet to the bytes of its answer: a mesh, or a refusal, as text.
+// The bytes of a sheet to the bytes of its answer: a sheet read, and a mesh or a refusal written as text.
+mod digits;
+mod reading;
+mod reading_lines;
+mod reading_numbers;
+mod writing;
+mod writing_lines;
+mod writing_numbers;
+mod writing_room;
+
 ghost use mathlib.Core.Path.{_≡_};
 ghost use lib.ListN.{length};
 ghost use mathlib.Core.List.{[]};
 ghost use Rattle.answer.specs.Answers.{code};
 ghost use Rattle.column.specs.Column.{lists};
-ghost use Rattle.mesh_text.specs.Text.{refusalText};
-ghost use Rattle.sheet.specs.Answering.{floats, plainIf, sidesOf, columnOf, columnText, Told, Answered};
+ghost use Rattle.sheet.specs.Meshes.{refusalText, TextWritten};
+ghost use Rattle.sheet.specs.Answering.{floats, plainIf, sidesOf, columnOf, columnText, Answered};
+use crate::reading::Sheet;
 use answer::answer::Answer;
 use answer::answer::Refusal;
-use column::Choice;
 use column::Column;
 use column::Side;
 use column::Subdivisions;
 use face::vec::Vec2;
+use placement::options::Choice;
 use placement::placement::Choice3;
 use placement::placement::Placement;
 use placement::placement::Turn;
-use sheet_reading::Sheet;
 
-fn put_floats(patterns: &[u32], out: &mut [f32])
+fn fill_floats(patterns: &[u32], out: &mut [f32])
     requires { ⌜ length (now out) ≡ length (now patterns) ⌝ }
     ensures { λ _. ⌜ now (out .exit) ≡ floats (now (patterns .entry)) ⌝ }
 {
@@ -85,7 +94,7 @@ fn column_of(sheet: Sheet) -> Column
 // Buffers for 1,024 vertices, so that a larger plan is refused with 5; a column has at most four
 // indices a vertex.
 fn write_column(job: Column, pairs: &[f32], corners: &[f32], out: &mut [u8]) -> usize
-    ensures { λ r. ⌜ Told (columnText job (lists (now (pairs .entry)) (now (corners .entry)) [] [])) (now (out .entry)) (now (out .exit)) r ⌝ }
+    ensures { λ r. ⌜ TextWritten (columnText job (lists (now (pairs .entry)) (now (corners .entry)) [] [])) (now (out .entry)) (now (out .exit)) r ⌝ }
 {
     let numbers = [0f32; 0];
     let marks = [0u8; 0];
@@ -106,32 +115,31 @@ fn write_column(job: Column, pairs: &[f32], corners: &[f32], out: &mut [u8]) -> 
     );
     match answer {
         Answer::Refused(why) => write_refusal(why, out),
-        Answer::Done(counts) => mesh_text::write_mesh(
+        Answer::Done(counts) => writing::write_mesh(
             &vertices,
             &normals,
             &uvs,
             &indices,
-            counts.vertices.0,
-            counts.indices.0,
+            counts,
             out,
         ),
     }
 }
 
 fn write_refusal(why: Refusal, out: &mut [u8]) -> usize
-    ensures { λ r. ⌜ Told (refusalText (code why)) (now (out .entry)) (now (out .exit)) r ⌝ }
+    ensures { λ r. ⌜ TextWritten (refusalText (code why)) (now (out .entry)) (now (out .exit)) r ⌝ }
 {
     let number = answer::answer::number_of(Answer::Refused(why));
-    mesh_text::write_refusal(number, out)
+    writing::write_refusal(number, out)
 }
 
 fn write_patterns(job: Column, ends: [u32; 24], ring: [u32; 12], out: &mut [u8]) -> usize
-    ensures { λ r. ⌜ Told (columnText job (lists (floats ends) (floats ring) [] [])) (now (out .entry)) (now (out .exit)) r ⌝ }
+    ensures { λ r. ⌜ TextWritten (columnText job (lists (floats ends) (floats ring) [] [])) (now (out .entry)) (now (out .exit)) r ⌝ }
 {
     let mut pairs = [0f32; 24];
     let mut corners = [0f32; 12];
-    put_floats(&ends, &mut pairs);
-    put_floats(&ring, &mut corners);
+    fill_floats(&ends, &mut pairs);
+    fill_floats(&ring, &mut corners);
     write_column(job, &pairs, &corners, out)
 }
 
@@ -140,11 +148,11 @@ fn write_patterns(job: Column, ends: [u32; 24], ring: [u32; 12], out: &mut [u8])
 pub fn write_answer(bytes: &[u8], out: &mut [u8]) -> usize
     ensures { λ r. ⌜ Answered (now (bytes .entry)) (now (out .entry)) (now (out .exit)) r ⌝ }
 {
-    let reading = sheet_reading::read(bytes);
-    if !reading.good {
+    let found = reading::read(bytes);
+    if !found.good {
         return write_refusal(Refusal::Sheet, out);
     }
-    let sheet = reading.sheet;
+    let sheet = found.sheet;
     let pairs = sheet.pairs;
     let corners = sheet.corners;
     write_patterns(column_of(sheet), pairs, corners, out)

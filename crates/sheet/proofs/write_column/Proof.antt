@@ -4,7 +4,7 @@ use mathlib.Core.Path.{sym, _∙_}
 use mathlib.Core.List.{[]}
 use denote.Ref.{now}
 use Rattle.column.specs.Column.{lists}
-use Rattle.sheet.proofs.Telling.{blank, blank-roomy, told-refusal, told-mesh}
+use Rattle.sheet.proofs.Printing.{blank, blank-roomy, refusal-written, mesh-written}
 use Rattle.sheet.proofs.write_column.Statement.{statement}
 use Rattle.sheet.proofs.write_column.Tie as tie
 
@@ -30,8 +30,8 @@ write-column-spec =
     (λ c. search needs)
     (λ c.
     let a = c .before .before .before .before .before .before .before .before .before .before .before .before .before .before .before .before .before .before .before .before .before .args in
-    told-refusal (a .job) (lists (now (a .pairs)) (now (a .corners)) [] []) blank blank-roomy _ (sym (c .before .before .before .before .before .before .before .before .before .before .before .build .ensures .0) ∙ c .before .before .before .before .before .answer .given .1) _ _ _ (c .before .before .write-refusal .ensures))
+    refusal-written (a .job) (lists (now (a .pairs)) (now (a .corners)) [] []) blank blank-roomy _ (sym (c .before .before .before .before .before .before .before .before .before .before .before .build .ensures .0) ∙ c .before .before .before .before .before .answer .given .1) _ _ _ (c .before .before .write-refusal .ensures))
     (λ c. search needs)
     (λ c.
     let a = c .before .before .before .before .before .before .before .before .before .before .before .before .before .before .before .before .before .before .before .before .before .before .before .before .before .args in
-    told-mesh (a .job) (lists (now (a .pairs)) (now (a .corners)) [] []) blank blank-roomy _ (sym (c .before .before .before .before .before .before .before .before .before .before .before .before .before .before .before .build .ensures .0) ∙ c .before .before .before .before .before .before .before .before .before .answer2 .given .1) _ (c .before .before .before .before .before .before .before .before .before .before .before .before .before .before .before .build .ensures .1) _ _ _ (c .before .before .write-mesh .ensures)))
+    mesh-written (a .job) (lists (now (a .pairs)) (now (a .corners)) [] []) blank blank-roomy _ (sym (c .before .before .before .before .before .before .before .before .before .before .before .before .before .before .before .build .ensures .0) ∙ c .before .before .before .before .before .before .before .before .before .answer2 .given .1) _ (c .before .before .before .before .before .before .before .before .before .before .before .before .before .before .before .build .ensures .1) _ _ _ (c .before .before .write-mesh .ensures)))

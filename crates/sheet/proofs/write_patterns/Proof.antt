@@ -17,4 +17,4 @@ write-patterns-spec =
     (λ c. search needs)
     (λ c κs. search needs)
     (λ c. search needs)
-    (λ c. rw (c .before .before .before .before .before .before .before .before .before .before .before .put-floats .ensures, c .before .before .before .before .before .before .before .put-floats2 .ensures) at (c .before .before .write-column .ensures)))
+    (λ c. rw (c .before .before .before .before .before .before .before .before .before .before .before .fill-floats .ensures, c .before .before .before .before .before .before .before .fill-floats2 .ensures) at (c .before .before .write-column .ensures)))

@@ -1,6 +1,5 @@
 -- `write_refusal`: the number is the refusal's. Assumes nothing.
 use borrow.Author.Needs.{needs}
-use lib.ListN.{length}
 use Rattle.sheet.proofs.write_refusal.Statement.{statement}
 use Rattle.sheet.proofs.write_refusal.Tie as tie
 
