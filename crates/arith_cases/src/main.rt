@@ -1,9 +1,11 @@
 // Compares the square root and the fused multiply-add of `arith` with a record of the C library's
 // answers, bit by bit, and writes how many differ.
+mod cell;
+mod record;
 mod report;
+mod tally;
 
-use record::tally;
-use record::tally::Tally;
+use tally::Tally;
 
 // How many patterns the grid has, and so the cells of the record's longest line.
 const PATTERNS: usize = 50;

@@ -1,5 +1,5 @@
 // The report of what was compared.
-use record::tally::Tally;
+use crate::tally::Tally;
 
 fn print(text: &[u8]) {
     io::write_all(1, text);

@@ -1,55 +1,27 @@
 //! Calls over the boundary: a worked case, the limits, each refusal, and every field in its place.
 
+mod common;
+use common::{done, jobs::Table, refused, Mesh};
 use hosirekar_sys::*;
-
-/// Four buffers, each filled with a number that no mesh here has.
-#[derive(Clone, Debug, PartialEq)]
-struct Mesh {
-    vertices: Vec<f32>,
-    normals: Vec<f32>,
-    uvs: Vec<f32>,
-    indices: Vec<u16>,
-}
 
 const UNWRITTEN: f32 = -77.0;
 const UNWRITTEN_INDEX: u16 = 7777;
 
-impl Mesh {
-    /// Room for so many vertices and indices.
-    fn room(vertices: usize, indices: usize) -> Mesh {
-        Mesh {
-            vertices: vec![UNWRITTEN; 3 * vertices],
-            normals: vec![UNWRITTEN; 3 * vertices],
-            uvs: vec![UNWRITTEN; 2 * vertices],
-            indices: vec![UNWRITTEN_INDEX; indices],
-        }
-    }
-
-    /// The four, each in turn one short.
-    fn one_short(&self) -> [Mesh; 4] {
-        let mut four = [self.clone(), self.clone(), self.clone(), self.clone()];
-        four[0].vertices.pop();
-        four[1].normals.pop();
-        four[2].uvs.pop();
-        four[3].indices.pop();
-        four
+/// Room for so many vertices and indices, filled with a number that no mesh here has.
+fn room(vertices: usize, indices: usize) -> Mesh {
+    Mesh {
+        vertices: vec![UNWRITTEN; 3 * vertices],
+        normals: vec![UNWRITTEN; 3 * vertices],
+        uvs: vec![UNWRITTEN; 2 * vertices],
+        indices: vec![UNWRITTEN_INDEX; indices],
     }
 }
 
-/// A table of options.
-#[derive(Clone, Debug, Default)]
-struct Table {
-    numbers: Vec<f32>,
-    marks: Vec<u8>,
-}
-
-impl Table {
-    /// One entry: nothing altered, and an inset of the middle by a half with its inner face kept.
-    fn inset() -> Table {
-        Table {
-            numbers: vec![1.0, 1.0, 0.0, 0.0, 0.0, 0.0, 1.0, 1.0, 0.5],
-            marks: vec![0, 0, 1, 1],
-        }
+/// One entry: nothing altered, and an inset of the middle by a half with its inner face kept.
+fn inset() -> Table {
+    Table {
+        numbers: vec![1.0, 1.0, 0.0, 0.0, 0.0, 0.0, 1.0, 1.0, 0.5],
+        marks: vec![0, 0, 1, 1],
     }
 }
 
@@ -134,21 +106,6 @@ fn plane_face(job: CPlane, number: usize, to: &mut Mesh) -> CAnswer {
     )
 }
 
-fn refused(number: u32) -> CAnswer {
-    CAnswer {
-        number,
-        ..CAnswer::default()
-    }
-}
-
-fn done(vertices: usize, indices: usize) -> CAnswer {
-    CAnswer {
-        vertices,
-        indices,
-        ..CAnswer::default()
-    }
-}
-
 fn bits(numbers: &[f32]) -> Vec<u32> {
     numbers.iter().map(|x| x.to_bits()).collect()
 }
@@ -193,7 +150,7 @@ fn all_faces(subdivisions: u32) -> CColumn {
 #[test]
 fn a_column_of_one_side_has_its_bits_and_nothing_past_them() {
     let (job, pairs) = one_side();
-    let mut mesh = Mesh::room(5, 7);
+    let mut mesh = room(5, 7);
     let answer = build_column(job, &pairs, &[0.0; 12], &Table::default(), &mut mesh);
     assert_eq!(answer, done(4, 6));
     let (one, two, minus) = (0x3f80_0000, 0x4000_0000, 0xbf80_0000);
@@ -231,13 +188,13 @@ fn a_plan_reaches_its_limit_and_not_past_it() {
 #[test]
 fn a_buffer_one_short_is_refused_and_nothing_is_written() {
     let (job, pairs) = one_side();
-    for short in Mesh::room(4, 6).one_short() {
+    for short in room(4, 6).one_short() {
         let mut mesh = short.clone();
         let answer = build_column(job, &pairs, &[0.0; 12], &Table::default(), &mut mesh);
         assert_eq!(answer, refused(5));
         assert_eq!(mesh, short);
     }
-    for short in Mesh::room(6, 12).one_short() {
+    for short in room(6, 12).one_short() {
         let mut mesh = short.clone();
         assert_eq!(
             build_plane(plane(), &CORNERS, &Table::default(), &mut mesh),
@@ -251,7 +208,7 @@ fn a_buffer_one_short_is_refused_and_nothing_is_written() {
 #[test]
 fn each_refusal_has_its_number_and_writes_nothing() {
     let (job, pairs) = one_side();
-    let fresh = Mesh::room(65536, 98304);
+    let fresh = room(65536, 98304);
     let mut mesh = fresh.clone();
     let table = Table::default();
     assert_eq!(
@@ -312,7 +269,7 @@ fn what_is_not_given_is_not_read() {
         given: false,
         number: u32::MAX,
     };
-    let (mut plain, mut mesh) = (Mesh::room(4, 6), Mesh::room(4, 6));
+    let (mut plain, mut mesh) = (room(4, 6), room(4, 6));
     let answer = build_column(job, &pairs, &[0.0; 12], &Table::default(), &mut plain);
     assert_eq!(
         build_column(odd, &pairs, &[0.0; 12], &Table::default(), &mut mesh),
@@ -366,9 +323,9 @@ fn a_plane_stands_where_every_field_says() {
         option: 0,
         placement: placement(),
     };
-    let mut mesh = Mesh::room(12, 48);
+    let mut mesh = room(12, 48);
     assert_eq!(
-        build_plane(job, &CORNERS, &Table::inset(), &mut mesh),
+        build_plane(job, &CORNERS, &inset(), &mut mesh),
         done(12, 48)
     );
     let up = turned(placement().turn, [0.0, 1.0, 0.0]);
@@ -386,18 +343,13 @@ fn a_plane_stands_where_every_field_says() {
         assert_eq!(mesh.uvs[2 * k..2 * k + 2], [wrapped.x, wrapped.y]);
     }
     assert_eq!(mesh.indices[..6], [7, 1, 0, 0, 6, 7]);
-    let plan = hosirekar_plane_plan(
-        job,
-        &CORNERS,
-        &Table::inset().numbers,
-        &Table::inset().marks,
-    );
+    let plan = hosirekar_plane_plan(job, &CORNERS, &inset().numbers, &inset().marks);
     assert_eq!(plan, done(12, 48));
 }
 
 #[test]
 fn the_face_of_a_plane_is_the_plane() {
-    let (mut whole, mut face) = (Mesh::room(7, 13), Mesh::room(7, 13));
+    let (mut whole, mut face) = (room(7, 13), room(7, 13));
     assert_eq!(
         build_plane(plane(), &CORNERS, &Table::default(), &mut whole),
         done(6, 12)
@@ -439,8 +391,8 @@ fn odd_column() -> (CColumn, Vec<f32>, CAnswer) {
 #[test]
 fn a_column_stands_where_every_field_says() {
     let (job, pairs, counts) = odd_column();
-    let table = Table::inset();
-    let mut mesh = Mesh::room(counts.vertices, counts.indices);
+    let table = inset();
+    let mut mesh = room(counts.vertices, counts.indices);
     assert_eq!(
         build_column(job, &pairs, &CORNERS, &table, &mut mesh),
         counts
@@ -461,8 +413,8 @@ fn a_column_stands_where_every_field_says() {
 #[test]
 fn the_faces_of_a_column_in_any_order_are_the_column() {
     let (job, pairs, counts) = odd_column();
-    let table = Table::inset();
-    let mut whole = Mesh::room(counts.vertices + 1, counts.indices + 1);
+    let table = inset();
+    let mut whole = room(counts.vertices + 1, counts.indices + 1);
     let mut faces = whole.clone();
     assert_eq!(
         build_column(job, &pairs, &CORNERS, &table, &mut whole),
@@ -475,13 +427,13 @@ fn the_faces_of_a_column_in_any_order_are_the_column() {
     }
     assert_eq!(faces, whole);
     // The top alone: the fifth face, after four parts of sides.
-    let mut top = Mesh::room(counts.vertices, counts.indices);
+    let mut top = room(counts.vertices, counts.indices);
     assert_eq!(column_face(job, &pairs, &table, 4, &mut top), counts);
     let (first, past) = (24, 36);
     for (k, x) in top.vertices.iter().enumerate() {
         assert_eq!(*x != UNWRITTEN, (3 * first..3 * past).contains(&k));
     }
-    for short in Mesh::room(counts.vertices, counts.indices).one_short() {
+    for short in room(counts.vertices, counts.indices).one_short() {
         let mut mesh = short.clone();
         assert_eq!(column_face(job, &pairs, &table, 0, &mut mesh), refused(5));
         assert_eq!(column_face(job, &pairs, &table, 6, &mut mesh), refused(6));
@@ -496,7 +448,7 @@ fn a_cheap_column_has_its_numbers_in_place() {
         height: 3.0,
     };
     assert_eq!(hosirekar_cheap_column_plan(job, &CORNERS), done(12, 48));
-    let mut whole = Mesh::room(13, 49);
+    let mut whole = room(13, 49);
     let answer = hosirekar_cheap_column_build(
         job,
         &CORNERS,
@@ -512,7 +464,7 @@ fn a_cheap_column_has_its_numbers_in_place() {
     assert_eq!(whole.normals[..3], [1.5, 0.0, 0.25]);
     assert_eq!(whole.uvs[..2], [1.0, 0.5]);
     assert_eq!(whole.indices[44..], [6, 6, 11, 5, UNWRITTEN_INDEX]);
-    let mut face = Mesh::room(13, 49);
+    let mut face = room(13, 49);
     for (number, wanted) in [(1, refused(6)), (0, done(12, 48))] {
         let answer = hosirekar_cheap_column_face(
             job,
@@ -565,20 +517,20 @@ fn merge(source: &Mesh, indices: [u16; 3], to: &mut Mesh) -> CAnswer {
 #[test]
 fn a_merge_lays_the_source_after_the_target() {
     let source = triangle();
-    let mut mesh = Mesh::room(6, 5);
+    let mut mesh = room(6, 5);
     assert_eq!(merge(&source, [2, 0, 1], &mut mesh), done(5, 4));
-    let mut wanted = Mesh::room(6, 5);
+    let mut wanted = room(6, 5);
     wanted.vertices[6..15].copy_from_slice(&source.vertices);
     wanted.normals[6..15].copy_from_slice(&source.normals);
     wanted.uvs[4..10].copy_from_slice(&source.uvs);
     wanted.indices[1..4].copy_from_slice(&[4, 2, 3]);
     assert_eq!(mesh, wanted);
-    for short in Mesh::room(5, 4).one_short() {
+    for short in room(5, 4).one_short() {
         let mut mesh = short.clone();
         assert_eq!(merge(&source, [2, 0, 1], &mut mesh), refused(5));
         assert_eq!(mesh, short);
     }
-    let mut shorter = Mesh::room(1, 1);
+    let mut shorter = room(1, 1);
     assert_eq!(merge(&source, [2, 0, 1], &mut shorter), refused(1));
 }
 

@@ -13,6 +13,10 @@ pub mod cases;
 pub mod compare;
 #[cfg(feature = "archive")]
 pub mod differences;
+pub mod digest;
+pub mod job_faults;
+pub mod job_runs;
+pub mod job_words;
 #[cfg(feature = "archive")]
 pub mod limits;
 pub mod line;
@@ -23,6 +27,7 @@ pub mod numbers;
 pub mod ours;
 pub mod random;
 pub mod record;
+pub mod replay_record;
 #[cfg(feature = "archive")]
 pub mod safe;
 pub mod shapes;
@@ -31,6 +36,7 @@ pub mod storage;
 #[cfg(feature = "archive")]
 pub mod stored;
 mod table;
+pub mod value_words;
 
 include!(concat!(env!("OUT_DIR"), "/mesh.rs"));
 

@@ -1,7 +1,8 @@
 //! How far the written steps stand from hexx's own numbers where a job has a
 //! turn or a bottom. The jobs are those that `record-planes` and
-//! `record-columns` write for the same count and seed, where the proved code
-//! is held to the written steps bit by bit.
+//! `record-columns` write for the same count and seed. That the proved code
+//! equals the written steps bit by bit is held on other jobs, drawn alike: by
+//! `compare`, and by `replay` on what `record-jobs` writes.
 
 use glam::Vec3;
 use oracle::MeshInfo;
