@@ -12,13 +12,17 @@ const PATTERNS: usize = 50;
 
 // The tally with the root of one pattern compared.
 fn with_root(t: Tally, x: u32, recorded: u32) -> Tally {
-    let made = record::pattern(arith::root(record::float(x)));
+    let made = patterns::pattern(arith::root(patterns::float(x)));
     tally::with_case(t, x, 0, 0, made, recorded)
 }
 
 // The tally with one triple compared.
 fn with_fused(t: Tally, a: u32, b: u32, c: u32, recorded: u32) -> Tally {
-    let made = record::pattern(arith::fused(record::float(a), record::float(b), record::float(c)));
+    let made = patterns::pattern(arith::fused(
+        patterns::float(a),
+        patterns::float(b),
+        patterns::float(c),
+    ));
     tally::with_case(t, a, b, c, made, recorded)
 }
 

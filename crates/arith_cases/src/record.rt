@@ -6,24 +6,6 @@ ghost use mathlib.Core.Path.{_≡_};
 ghost use mathlib.Core.Bool.{true};
 ghost use Prim.Native.Nat.{_≤_, _<_, _^_};
 ghost use lib.ListN.{length};
-ghost use lib.Ieee.{binary32, ofBits, toBits};
-
-// The number of a pattern.
-pub(crate) fn float(bits: u32) -> f32
-    ensures { λ r. ⌜ r ≡ ofBits binary32 bits ⌝ }
-{
-    patterns::float(bits)
-}
-
-// The pattern of a number, with every NaN as a record has it, 7fc00000.
-pub(crate) fn pattern(x: f32) -> u32
-    ensures { λ r. ⌜ r ≡ toBits binary32 x ⌝ }
-{
-    if x == x {
-        return f32::to_bits(x);
-    }
-    0x7fc0_0000
-}
 
 // Reads a line of as many patterns as there is room for, and answers whether it was there. No line
 // has more than 50.

@@ -60,14 +60,6 @@ pub(crate) fn read_lent() -> Lent
     }
 }
 
-// The pattern of a number, with every NaN as the record has it.
-fn pattern(x: f32) -> u32 {
-    if x == x {
-        return f32::to_bits(x);
-    }
-    0x7fc0_0000
-}
-
 pub(crate) fn nothing() -> Digest {
     Digest { a: 1, b: 1 }
 }
@@ -80,7 +72,7 @@ pub(crate) fn with_word(d: Digest, word: u32) -> Digest {
 }
 
 pub(crate) fn with_float(d: Digest, x: f32) -> Digest {
-    with_word(d, pattern(x))
+    with_word(d, patterns::pattern(x))
 }
 
 pub(crate) fn with_point(d: Digest, p: Vec3) -> Digest {

@@ -1,4 +1,4 @@
--- `record::pattern`: what equals itself is no NaN, and what does not is the one NaN. Assumes nothing.
+-- `pattern`: what equals itself is no NaN, and what does not is the one NaN. Assumes nothing.
 use mathlib.Core.Path.{_≡_, refl, sym, _∙_}
 use mathlib.Core.Bool.{Bool, true, false, not, false≢true, true≢false}
 use Prim.Native.Nat.{ℕ, _*_}
@@ -6,8 +6,8 @@ use lib.Dec.{T}
 use lib.Ieee.{Float, nan, inf, fin, eq, level, up, down, isNan, binary32, toBits}
 use borrow.Author.Needs.{needs}
 use borrow.Author.Tests.{eq-eqb}
-use Rattle.arith_cases.proofs.record.pattern.Statement.{statement}
-use Rattle.arith_cases.proofs.record.pattern.Tie as tie
+use Rattle.patterns.proofs.pattern.Statement.{statement}
+use Rattle.patterns.proofs.pattern.Tie as tie
 
 no-nan : (x : Float) → eq x x ≡ true → T (not (isNan x))
 unfolding eq isNan
