@@ -14,23 +14,6 @@ pub(crate) enum Read {
 // The cells of the longest line.
 const LONGEST: usize = 50;
 
-// The value of a digit, or 16 where the byte is none of 0 to 9 and a to f.
-fn digit(byte: u8) -> u32 {
-    if byte < b'0' {
-        return 16;
-    }
-    if byte <= b'9' {
-        return (byte - b'0') as u32;
-    }
-    if byte < b'a' {
-        return 16;
-    }
-    if byte <= b'f' {
-        return (byte - b'a') as u32 + 10;
-    }
-    16
-}
-
 // The number that the cell at a place spells in a base of at most 16, if the cell ends as it should.
 pub(crate) fn cell(text: &[u8], at: usize, base: u32, end: u8) -> Read
     requires { ⌜ (base ≤ 16) × (at ≤ 4096) ⌝ }
@@ -45,7 +28,7 @@ pub(crate) fn cell(text: &[u8], at: usize, base: u32, end: u8) -> Read
     let mut value: u64 = 0;
     let mut i = 0;
     while i < 8 {
-        let d = digit(text[at + i]);
+        let d = patterns::digit_value(text[at + i]) as u32;
         if d >= base {
             return Read::Nothing;
         }

@@ -23,27 +23,10 @@ fn byte() -> u8 {
     one[0]
 }
 
-// The value of a digit, or 16 where the byte is none of 0 to 9 and a to f.
-fn digit(byte: u8) -> u32 {
-    if byte < b'0' {
-        return 16;
-    }
-    if byte <= b'9' {
-        return (byte - b'0') as u32;
-    }
-    if byte < b'a' {
-        return 16;
-    }
-    if byte <= b'f' {
-        return (byte - b'a') as u32 + 10;
-    }
-    16
-}
-
 pub(crate) fn word() -> u32 {
     let mut value: u32 = 0;
     for _i in 0usize..9 {
-        let d = digit(byte());
+        let d = patterns::digit_value(byte()) as u32;
         if d > 15 {
             return value;
         }

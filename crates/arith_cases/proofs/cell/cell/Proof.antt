@@ -29,7 +29,7 @@ short : (b i : ℕ) → b ≤ 16 → i ≤ 8 → b ^ i ≤ 2 ^ 32
 short b i g h = le-trans (pow-le-pow-left g i) (pow-le-pow-right (omega arith) h)
 
 -- the value after a turn, where the digit is one of the base
-after : (c : tie.Else3 Inv-loop μ-loop) → c .before .before .before .before .loop .value * c .before .before .before .before .before .before .before .before .before .args .base + c .before .digit .result < c .before .before .before .before .before .before .before .before .before .args .base ^ (c .before .before .before .before .loop .i + 1)
+after : (c : tie.Else3 Inv-loop μ-loop) → c .before .before .before .before .loop .value * c .before .before .before .before .before .before .before .before .before .args .base + c .before .digit-value .result < c .before .before .before .before .before .before .before .before .before .args .base ^ (c .before .before .before .before .loop .i + 1)
 after c = longer _ _ _ _ (c .before .before .before .before .loop .inv .1) (omega arith)
 
 room : (c : tie.Else3 Inv-loop μ-loop) → c .before .before .before .before .before .before .before .before .before .args .base ^ (c .before .before .before .before .loop .i + 1) ≤ 2 ^ 32
@@ -54,6 +54,7 @@ cell-spec =
     (λ c. search needs)
     (λ c. search needs)
     (λ c κs. search needs)
+    (λ c. search needs)
     (λ c. search needs)
     (λ c. record { fits = omega (arith, after c, room c) })
     (λ c. search needs)
