@@ -13,7 +13,8 @@ use Rattle.buffers.specs.Laying.{four}
 use Rattle.buffers.specs.Faces.{quadMesh, hexagonMesh}
 use Rattle.column.specs.Column.{columnNames, meshOf}
 use Rattle.sheet.specs.declared.reading.Sheet.{Sheet}
-use Rattle.sheet.specs.Digits.{bytes, hexDigits, decimal, digits, digitCount, divisions, digitValue}
+use Rattle.patterns.specs.Digits.{digitValue}
+use Rattle.sheet.specs.Digits.{bytes, hexDigits, decimal, digits, digitCount, divisions}
 use Rattle.sheet.specs.Sheets.{numbersText, sheetText, Lawful}
 use Rattle.sheet.specs.Readers.{markOf, wordOf, digitAt, hexFrom, decimalFrom, decimalOf, countOf, sectionOf, numbersFrom, numbersOf, blockOf, headOf, sheetOf, reading, readAs}
 use Rattle.sheet.specs.Meshes.{bitsOf, floatLines, indexLines, meshText, refusalText}

@@ -9,7 +9,8 @@ use borrow.Author.Tests.{lt-ltb, le-ltb, le-leb, lt-leb, ne-eqb, ltb-true, ltb-f
 use lib.Dec.{ltb, leb, eqb}
 use lib.ListN.{drop}
 use lib.Seq.{append-snoc}
-use Rattle.sheet.specs.Digits.{newline, digit, digits, divisions, digitCount, decimal, digitValue}
+use Rattle.patterns.specs.Digits.{digitValue}
+use Rattle.sheet.specs.Digits.{newline, digit, digits, divisions, digitCount, decimal}
 use Rattle.sheet.specs.Sheets.{InU32}
 use Rattle.sheet.proofs.Numerals.{count-small, count-more}
 use Rattle.sheet.specs.Readers.{Taken, taken, none, next, onlyIf, digitAt, hexFrom, decimalFrom, decimalOf}

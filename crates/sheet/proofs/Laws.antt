@@ -12,7 +12,8 @@ use lib.Seq.{take-append-seam, length-take-le}
 use Rattle.face.specs.Lists.{chain}
 use Rattle.face.specs.declared.triangle.Counts.{Counts}
 use Rattle.buffers.specs.Laying.{Buffers}
-use Rattle.sheet.specs.Digits.{digit, digits, divisions, digitCount, hexDigits, decimal, digitValue, spelt, gap}
+use Rattle.patterns.specs.Digits.{digitValue}
+use Rattle.sheet.specs.Digits.{digit, digits, divisions, digitCount, hexDigits, decimal, spelt, gap}
 use Rattle.sheet.specs.Meshes.{indexWord, indexLines, meshText, refusalText, Written}
 use Rattle.sheet.specs.Answering.{answerText, Answered}
 use Rattle.sheet.proofs.Alike.{chain-alike}

@@ -13,4 +13,3 @@ mod Numerals
 mod Pieces
 mod Rooms
 mod Whole
-mod Patterns

@@ -11,7 +11,8 @@ use lib.Dec.{ltb}
 use lib.ListN.{length, getD, take, drop, set, drop-of-length-le, take-append-drop}
 use lib.Seq.{drop-cons, drop-drop, drop-set-lt, length-take-le, take-suc-set}
 use Rattle.sheet.specs.declared.reading.Sheet.{Sheet}
-use Rattle.sheet.specs.Digits.{digitValue, gap}
+use Rattle.patterns.specs.Digits.{digitValue}
+use Rattle.sheet.specs.Digits.{gap}
 use Rattle.sheet.specs.Readers.{taken, none, markOf, wordOf, digitAt, hexFrom, hexOf, decimalFrom, decimalOf, numbersFrom, numbersOf, readAs, unreadable, whole}
 
 -- ---- a byte

@@ -4,7 +4,8 @@ use Prim.Native.Nat.{ℕ, zero, suc, _+_, _-_, _*_, _/_, _%_}
 use Prim.Native.String.{String, len, charAt}
 use Prim.Native.Char.{code}
 use mathlib.Core.List.{List, [], _∷_, _++_}
-use lib.Dec.{ltb, leb, eqb}
+use lib.Dec.{ltb, eqb}
+use Rattle.patterns.specs.Digits.{digitValue}
 use Rattle.face.specs.Lists.{each}
 
 -- the bytes of a text
@@ -20,10 +21,6 @@ space = 32
 -- 0 to 9, then a to f
 abbrev pub digit : ℕ → ℕ
 digit d = cond (ltb d 10) (48 + d) (87 + d)
-
--- what a byte is worth as a digit, or 16
-unfoldable pub digitValue : ℕ → ℕ
-digitValue b = cond (ltb b 48) 16 (cond (leb b 57) (b - 48) (cond (ltb b 97) 16 (cond (leb b 102) (b - 87) 16)))
 
 -- the last k digits of n in a base, the lowest at the end
 unfoldable pub digits : ℕ → ℕ → ℕ → List ℕ

@@ -12,7 +12,8 @@ use Rattle.sheet.specs.declared.reading_numbers.Spot.{Spot}
 use Rattle.sheet.specs.declared.reading_numbers.Spot.the-variants as spot
 use Rattle.sheet.specs.declared.reading_numbers.Number.{Number}
 use Rattle.sheet.specs.declared.reading_numbers.Number.the-variants as number
-use Rattle.sheet.specs.Digits.{newline, space, digitValue, gap}
+use Rattle.patterns.specs.Digits.{digitValue}
+use Rattle.sheet.specs.Digits.{newline, space, gap}
 use Rattle.sheet.specs.Sheets.{columnWord, sidesWord, capsWord}
 
 pub data Taken (A : Type 0) : Type 0 where

@@ -1,7 +1,7 @@
 // Digits and their characters, and what stands after a number.
 ghost use mathlib.Core.Path.{_≡_};
 ghost use Prim.Native.Nat.{_≤_, _<_};
-ghost use Rattle.sheet.specs.Digits.{digit, digitValue, digitCount, gap};
+ghost use Rattle.sheet.specs.Digits.{digit, digitCount, gap};
 
 // The character of a digit.
 pub(crate) fn digit(d: usize) -> u8
@@ -12,25 +12,6 @@ pub(crate) fn digit(d: usize) -> u8
         return (48 + d) as u8;
     }
     (87 + d) as u8
-}
-
-// A digit of either number format, or 16 for any other byte.
-pub(crate) fn digit_value(b: u8) -> u8
-    ensures { λ r. ⌜ r ≡ digitValue b ⌝ }
-{
-    if b < b'0' {
-        return 16;
-    }
-    if b <= b'9' {
-        return b - b'0';
-    }
-    if b < b'a' {
-        return 16;
-    }
-    if b <= b'f' {
-        return b - 87;
-    }
-    16
 }
 
 // How many digits a plain decimal has: no number here has more than twenty.

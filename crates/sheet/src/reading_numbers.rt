@@ -3,7 +3,6 @@ ghost use mathlib.Core.Path.{_≡_};
 ghost use Prim.Native.Nat.{_<_};
 ghost use Rattle.sheet.specs.Lent.{bytesFrom};
 ghost use Rattle.sheet.specs.Readers.{markOf, wordOf, digitAt, hexOf, decimalFrom, decimalOf, spotSeen, numberSeen};
-use crate::digits::digit_value;
 
 // The place past what was read.
 pub enum Spot {
@@ -48,7 +47,7 @@ fn digit_at(bytes: &[u8], at: usize) -> u8
     ensures { λ r. ⌜ r ≡ digitAt (bytesFrom bytes at) ⌝ }
 {
     if at < bytes.len() {
-        return digit_value(bytes[at]);
+        return patterns::digit_value(bytes[at]);
     }
     16
 }
@@ -78,7 +77,7 @@ fn decimal_from(bytes: &[u8], at: usize, first: u32) -> Number
     let mut value = first;
     let mut here = at;
     while here < bytes.len() {
-        let d = digit_value(bytes[here]);
+        let d = patterns::digit_value(bytes[here]);
         if 10 <= d {
             return Number::Of(value, here);
         }

@@ -11,14 +11,11 @@ ghost use Rattle.sheet.specs.Meshes.{bitsOf};
 use crate::digits::digit;
 use crate::digits::digit_count;
 
-// The pattern of a number. A NaN's pattern may be any, so it is not asked for.
+// The pattern of a number.
 pub(crate) fn bits_of(x: f32) -> u32
     ensures { λ r. ⌜ r ≡ bitsOf x ⌝ }
 {
-    if x == x {
-        return f32::to_bits(x);
-    }
-    0x7fc0_0000
+    patterns::pattern(x)
 }
 
 pub(crate) fn put_byte(out: &mut [u8], at: usize, byte: u8) -> usize
