@@ -131,12 +131,12 @@ pub fn hexagon_triangle(how: Inset, t: usize) -> Triangle
     }
 }
 
-fn counted(vertices: usize, indices: usize) -> Counts
-    ensures { λ r. ⌜ r ≡ counts vertices indices ⌝ }
+fn counted(vertices: VertexNumber, indices: IndexPlace) -> Counts
+    ensures { λ r. ⌜ r ≡ counts (vertices .0) (indices .0) ⌝ }
 {
     Counts {
-        vertices: VertexNumber(vertices),
-        indices: IndexPlace(indices),
+        vertices: vertices,
+        indices: indices,
     }
 }
 
@@ -145,9 +145,9 @@ fn ring_counts(keep: bool, m: usize, t: usize) -> Counts
     ensures { λ r. ⌜ r ≡ ringCounts keep m t ⌝ }
 {
     if keep {
-        return counted(2 * m, 6 * m + 3 * t);
+        return counted(VertexNumber(2 * m), IndexPlace(6 * m + 3 * t));
     }
-    counted(2 * m, 6 * m)
+    counted(VertexNumber(2 * m), IndexPlace(6 * m))
 }
 
 // How many vertices and indices a quad has with its inset.
@@ -155,7 +155,7 @@ pub fn quad_counts(how: Inset) -> Counts
     ensures { λ r. ⌜ r ≡ insetCounts how 4 2 ⌝ }
 {
     match how {
-        Inset::None => counted(4, 6),
+        Inset::None => counted(VertexNumber(4), IndexPlace(6)),
         Inset::Centroid(_, keep) => ring_counts(keep, 4, 2),
         Inset::SmallestEdge(_, keep) => ring_counts(keep, 4, 2),
     }
@@ -165,7 +165,7 @@ pub fn hexagon_counts(how: Inset) -> Counts
     ensures { λ r. ⌜ r ≡ insetCounts how 6 4 ⌝ }
 {
     match how {
-        Inset::None => counted(6, 12),
+        Inset::None => counted(VertexNumber(6), IndexPlace(12)),
         Inset::Centroid(_, keep) => ring_counts(keep, 6, 4),
         Inset::SmallestEdge(_, keep) => ring_counts(keep, 6, 4),
     }
