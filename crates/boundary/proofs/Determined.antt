@@ -11,20 +11,20 @@ use Rattle.mesh.specs.declared.stored.UvCentroidAnswer.{UvCentroidAnswer}
 use Rattle.cheap_column.specs.declared.CheapColumn.{CheapColumn}
 use Rattle.plane_builder.specs.declared.Plane.{Plane}
 use Rattle.column.specs.declared.Column.{Column}
-use Rattle.boundary.specs.declared.given.CVec2.{CVec2}
-use Rattle.boundary.specs.declared.given.CVec3.{CVec3}
-use Rattle.boundary.specs.declared.given.CCounts.{CCounts}
-use Rattle.boundary.specs.declared.given.CUvOptions.{CUvOptions}
+use Rattle.boundary.specs.declared.from_c.CVec2.{CVec2}
+use Rattle.boundary.specs.declared.from_c.CVec3.{CVec3}
+use Rattle.boundary.specs.declared.from_c.CCounts.{CCounts}
+use Rattle.boundary.specs.declared.from_c.CUvOptions.{CUvOptions}
 use Rattle.boundary.specs.declared.jobs.CPlane.{CPlane}
 use Rattle.boundary.specs.declared.jobs.CColumn.{CColumn}
 use Rattle.boundary.specs.declared.jobs.CCheapColumn.{CCheapColumn}
-use Rattle.boundary.specs.declared.told.CAnswer.{CAnswer}
-use Rattle.boundary.specs.declared.told.CCentroid.{CCentroid}
-use Rattle.boundary.specs.declared.told.CUvCentroid.{CUvCentroid}
-use Rattle.boundary.specs.Given.{vec2Of, vec3Of, countsIn, uvOptionsOf, planeOf, columnOf, cheapColumnOf}
-use Rattle.boundary.specs.Told.{told, told2, toldCentroid, toldUvCentroid}
+use Rattle.boundary.specs.declared.to_c.CAnswer.{CAnswer}
+use Rattle.boundary.specs.declared.to_c.CCentroid.{CCentroid}
+use Rattle.boundary.specs.declared.to_c.CUvCentroid.{CUvCentroid}
+use Rattle.boundary.specs.FromC.{vec2Of, vec3Of, countsIn, uvOptionsOf, planeOf, columnOf, cheapColumnOf}
+use Rattle.boundary.specs.ToC.{answerToC, pointToC, centroidToC, uvCentroidToC}
 
--- ---- what is given
+-- ---- from C
 pub vec2-of-determined : (p : CVec2) (r s : Vec2) → r ≡ vec2Of p → s ≡ vec2Of p → r ≡ s
 vec2-of-determined p r s h k = determined h k
 
@@ -46,15 +46,15 @@ column-of-determined job r s h k = determined h k
 pub cheap-column-of-determined : (job : CCheapColumn) (r s : CheapColumn) → r ≡ cheapColumnOf job → s ≡ cheapColumnOf job → r ≡ s
 cheap-column-of-determined job r s h k = determined h k
 
--- ---- what is told
-pub tell-determined : (a : Answer) (r s : CAnswer) → r ≡ told a → s ≡ told a → r ≡ s
-tell-determined a r s h k = determined h k
+-- ---- to C
+pub answer-to-c-determined : (a : Answer) (r s : CAnswer) → r ≡ answerToC a → s ≡ answerToC a → r ≡ s
+answer-to-c-determined a r s h k = determined h k
 
-pub tell2-determined : (p : Vec2) (r s : CVec2) → r ≡ told2 p → s ≡ told2 p → r ≡ s
-tell2-determined p r s h k = determined h k
+pub point-to-c-determined : (p : Vec2) (r s : CVec2) → r ≡ pointToC p → s ≡ pointToC p → r ≡ s
+point-to-c-determined p r s h k = determined h k
 
-pub tell-centroid-determined : (c : CentroidAnswer) (r s : CCentroid) → r ≡ toldCentroid c → s ≡ toldCentroid c → r ≡ s
-tell-centroid-determined c r s h k = determined h k
+pub centroid-to-c-determined : (c : CentroidAnswer) (r s : CCentroid) → r ≡ centroidToC c → s ≡ centroidToC c → r ≡ s
+centroid-to-c-determined c r s h k = determined h k
 
-pub tell-uv-centroid-determined : (c : UvCentroidAnswer) (r s : CUvCentroid) → r ≡ toldUvCentroid c → s ≡ toldUvCentroid c → r ≡ s
-tell-uv-centroid-determined c r s h k = determined h k
+pub uv-centroid-to-c-determined : (c : UvCentroidAnswer) (r s : CUvCentroid) → r ≡ uvCentroidToC c → s ≡ uvCentroidToC c → r ≡ s
+uv-centroid-to-c-determined c r s h k = determined h k

@@ -8,7 +8,7 @@ use Rattle.answer.specs.declared.answer.Refusal.the-variants.{Shape, Range, Nei
 use Rattle.answer.specs.declared.answer.Answer.{Answer}
 use Rattle.answer.specs.declared.answer.Answer.the-variants.{Done, Refused}
 use Rattle.answer.specs.Answers.{code, after, valueOf}
-use Rattle.boundary.specs.Told.{told}
+use Rattle.boundary.specs.ToC.{answerToC}
 
 -- no refusal has the number of a call that is done
 coded : (e : Refusal) → 1 ≤ code e
@@ -23,15 +23,15 @@ coded Empty = omega arith
 coded Sheet = omega arith
 
 -- 0: the call is done, with the counts that are told
-pub done : (a : Answer) → told a .number ≡ 0 → a ≡ Done (counts (told a .vertices) (told a .indices))
+pub done : (a : Answer) → answerToC a .number ≡ 0 → a ≡ Done (counts (answerToC a .vertices) (answerToC a .indices))
 done (Done c) z = refl
 done (Refused e) z = absurd (let g : 1 ≤ code e = coded e in let h : code e ≡ 0 = z in omega arith)
 
 -- any other number: both counts are 0, what is lent is as it was, and a value beside the answer is +0
-pub refused : {A : Type 0} (a : Answer) (old new : A) → 1 ≤ told a .number → (told a .vertices ≡ 0) × (told a .indices ≡ 0) × (after a old new ≡ old)
+pub refused : {A : Type 0} (a : Answer) (old new : A) → 1 ≤ answerToC a .number → (answerToC a .vertices ≡ 0) × (answerToC a .indices ≡ 0) × (after a old new ≡ old)
 refused (Done c) old new h = absurd (let g : 1 ≤ 0 = h in omega arith)
 refused (Refused e) old new h = (refl, refl, refl)
 
-pub without-value : {A : Type 0} (zero x : A) (a : Answer) → 1 ≤ told a .number → valueOf zero a x ≡ zero
+pub without-value : {A : Type 0} (zero x : A) (a : Answer) → 1 ≤ answerToC a .number → valueOf zero a x ≡ zero
 without-value zero x (Done c) h = absurd (let g : 1 ≤ 0 = h in omega arith)
 without-value zero x (Refused e) h = refl

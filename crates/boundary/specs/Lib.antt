@@ -1,2 +1,2 @@
-pub mod Given
-pub mod Told
+pub mod FromC
+pub mod ToC

@@ -1,8 +1,8 @@
 // A job as a caller hands it over, beside its lists.
 ghost use mathlib.Core.Path.{_≡_};
-ghost use Rattle.boundary.specs.Given.{planeOf, choiceOf, sideOf, sidesOf, subdivisionsOf, columnOf, cheapColumnOf};
-use crate::given::CPlacement;
-use crate::given::CVec2;
+ghost use Rattle.boundary.specs.FromC.{planeOf, choiceOf, sideOf, sidesOf, subdivisionsOf, columnOf, cheapColumnOf};
+use crate::from_c::CPlacement;
+use crate::from_c::CVec2;
 use cheap_column::CheapColumn;
 use column::Column;
 use column::Side;
@@ -50,8 +50,8 @@ pub struct CCheapColumn {
 pub fn plane_of(job: CPlane) -> Plane
     ensures { λ r. ⌜ r ≡ planeOf job ⌝ }
 {
-    let position = crate::given::vec2_of(job.position);
-    let placement = crate::given::placement_of(job.placement);
+    let position = crate::from_c::vec2_of(job.position);
+    let placement = crate::from_c::placement_of(job.placement);
     Plane {
         position: position,
         option: job.option,
@@ -105,8 +105,8 @@ pub fn column_of(job: CColumn) -> Column
     let sides = sides_of(given);
     let top = choice_of(job.top);
     let bottom = choice_of(job.bottom);
-    let position = crate::given::vec2_of(job.position);
-    let placement = crate::given::placement_of(job.placement);
+    let position = crate::from_c::vec2_of(job.position);
+    let placement = crate::from_c::placement_of(job.placement);
     Column {
         height: job.height,
         subdivisions: subdivisions,
@@ -121,7 +121,7 @@ pub fn column_of(job: CColumn) -> Column
 pub fn cheap_column_of(job: CCheapColumn) -> CheapColumn
     ensures { λ r. ⌜ r ≡ cheapColumnOf job ⌝ }
 {
-    let centre = crate::given::vec2_of(job.centre);
+    let centre = crate::from_c::vec2_of(job.centre);
     CheapColumn {
         centre: centre,
         height: job.height,

@@ -2,17 +2,17 @@
 ghost use mathlib.Core.Path.{_≡_};
 ghost use Rattle.buffers.specs.Lent.{entering, become};
 ghost use Rattle.cheap_column.specs.CheapColumn.{planned, wholeAnswer, faceAnswer, built, faced};
-ghost use Rattle.boundary.specs.Given.{cheapColumnOf};
-ghost use Rattle.boundary.specs.Told.{told};
+ghost use Rattle.boundary.specs.FromC.{cheapColumnOf};
+ghost use Rattle.boundary.specs.ToC.{answerToC};
 use boundary::jobs::CCheapColumn;
-use boundary::told::CAnswer;
+use boundary::to_c::CAnswer;
 
 // The counts of the job, or why it is refused.
 #[no_mangle]
 pub extern "C" fn hosirekar_cheap_column_plan(job: CCheapColumn, corners: &[f32]) -> CAnswer
-    ensures { λ r. ⌜ r ≡ told (planned (cheapColumnOf job) (now (corners .entry))) ⌝ }
+    ensures { λ r. ⌜ r ≡ answerToC (planned (cheapColumnOf job) (now (corners .entry))) ⌝ }
 {
-    boundary::told::tell(cheap_column::plan(boundary::jobs::cheap_column_of(job), corners))
+    boundary::to_c::answer_to_c(cheap_column::plan(boundary::jobs::cheap_column_of(job), corners))
 }
 
 // The whole job, written to four buffers, or nothing.
@@ -25,10 +25,10 @@ pub extern "C" fn hosirekar_cheap_column_build(
     uvs: &mut [f32],
     indices: &mut [u16],
 ) -> CAnswer
-    ensures answer { λ r. ⌜ r ≡ told (wholeAnswer (cheapColumnOf job) (now (corners .entry)) (entering vertices normals uvs indices)) ⌝ }
+    ensures answer { λ r. ⌜ r ≡ answerToC (wholeAnswer (cheapColumnOf job) (now (corners .entry)) (entering vertices normals uvs indices)) ⌝ }
     ensures buffers { λ _. ⌜ become (built (cheapColumnOf job) (now (corners .entry))) vertices normals uvs indices ⌝ }
 {
-    boundary::told::tell(cheap_column::build(
+    boundary::to_c::answer_to_c(cheap_column::build(
         boundary::jobs::cheap_column_of(job),
         corners,
         vertices,
@@ -49,10 +49,10 @@ pub extern "C" fn hosirekar_cheap_column_face(
     uvs: &mut [f32],
     indices: &mut [u16],
 ) -> CAnswer
-    ensures answer { λ r. ⌜ r ≡ told (faceAnswer (cheapColumnOf job) (now (corners .entry)) number (entering vertices normals uvs indices)) ⌝ }
+    ensures answer { λ r. ⌜ r ≡ answerToC (faceAnswer (cheapColumnOf job) (now (corners .entry)) number (entering vertices normals uvs indices)) ⌝ }
     ensures buffers { λ _. ⌜ become (faced (cheapColumnOf job) (now (corners .entry)) number) vertices normals uvs indices ⌝ }
 {
-    boundary::told::tell(cheap_column::face(
+    boundary::to_c::answer_to_c(cheap_column::face(
         boundary::jobs::cheap_column_of(job),
         corners,
         number,

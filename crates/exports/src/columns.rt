@@ -4,10 +4,10 @@ ghost use mathlib.Core.Path.{_≡_};
 ghost use Rattle.buffers.specs.Lent.{entering, become};
 ghost use Rattle.column.specs.Column.{lent, planned};
 ghost use Rattle.column_builder.specs.Calls.{wholeAnswer, faceAnswer, built, faced};
-ghost use Rattle.boundary.specs.Given.{columnOf};
-ghost use Rattle.boundary.specs.Told.{told};
+ghost use Rattle.boundary.specs.FromC.{columnOf};
+ghost use Rattle.boundary.specs.ToC.{answerToC};
 use boundary::jobs::CColumn;
-use boundary::told::CAnswer;
+use boundary::to_c::CAnswer;
 
 // The counts of the job, or why it is refused.
 #[no_mangle]
@@ -18,9 +18,9 @@ pub extern "C" fn hosirekar_column_plan(
     numbers: &[f32],
     marks: &[u8],
 ) -> CAnswer
-    ensures { λ r. ⌜ r ≡ told (planned (columnOf job) (lent pairs corners numbers marks)) ⌝ }
+    ensures { λ r. ⌜ r ≡ answerToC (planned (columnOf job) (lent pairs corners numbers marks)) ⌝ }
 {
-    boundary::told::tell(column_builder::plan(
+    boundary::to_c::answer_to_c(column_builder::plan(
         boundary::jobs::column_of(job),
         pairs,
         corners,
@@ -42,10 +42,10 @@ pub extern "C" fn hosirekar_column_build(
     uvs: &mut [f32],
     indices: &mut [u16],
 ) -> CAnswer
-    ensures answer { λ r. ⌜ r ≡ told (wholeAnswer (columnOf job) (lent pairs corners numbers marks) (entering vertices normals uvs indices)) ⌝ }
+    ensures answer { λ r. ⌜ r ≡ answerToC (wholeAnswer (columnOf job) (lent pairs corners numbers marks) (entering vertices normals uvs indices)) ⌝ }
     ensures buffers { λ _. ⌜ become (built (columnOf job) (lent pairs corners numbers marks)) vertices normals uvs indices ⌝ }
 {
-    boundary::told::tell(column_builder::build(
+    boundary::to_c::answer_to_c(column_builder::build(
         boundary::jobs::column_of(job),
         pairs,
         corners,
@@ -72,10 +72,10 @@ pub extern "C" fn hosirekar_column_face(
     uvs: &mut [f32],
     indices: &mut [u16],
 ) -> CAnswer
-    ensures answer { λ r. ⌜ r ≡ told (faceAnswer (columnOf job) (lent pairs corners numbers marks) number (entering vertices normals uvs indices)) ⌝ }
+    ensures answer { λ r. ⌜ r ≡ answerToC (faceAnswer (columnOf job) (lent pairs corners numbers marks) number (entering vertices normals uvs indices)) ⌝ }
     ensures buffers { λ _. ⌜ become (faced (columnOf job) (lent pairs corners numbers marks) number) vertices normals uvs indices ⌝ }
 {
-    boundary::told::tell(column_builder::face(
+    boundary::to_c::answer_to_c(column_builder::face(
         boundary::jobs::column_of(job),
         pairs,
         corners,

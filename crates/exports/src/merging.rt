@@ -2,10 +2,10 @@
 ghost use mathlib.Core.Path.{_≡_};
 ghost use Rattle.buffers.specs.Lent.{entering, become};
 ghost use Rattle.merge.specs.Merge.{merged};
-ghost use Rattle.boundary.specs.Given.{countsIn};
-ghost use Rattle.exports.specs.Merging.{mergeTold};
-use boundary::given::CCounts;
-use boundary::told::CAnswer;
+ghost use Rattle.boundary.specs.FromC.{countsIn};
+ghost use Rattle.exports.specs.Merging.{mergeToC};
+use boundary::from_c::CCounts;
+use boundary::to_c::CAnswer;
 
 // Appends a source mesh to a target, or writes nothing.
 #[no_mangle]
@@ -21,16 +21,16 @@ pub extern "C" fn hosirekar_merge(
     uvs: &mut [f32],
     indices: &mut [u16],
 ) -> CAnswer
-    ensures answer { λ r. ⌜ r ≡ mergeTold source (entering svertices snormals suvs sindices) target (entering vertices normals uvs indices) ⌝ }
+    ensures answer { λ r. ⌜ r ≡ mergeToC source (entering svertices snormals suvs sindices) target (entering vertices normals uvs indices) ⌝ }
     ensures buffers { λ _. ⌜ become (merged (countsIn source) (entering svertices snormals suvs sindices) (countsIn target)) vertices normals uvs indices ⌝ }
 {
-    boundary::told::tell(merge::merge(
-        boundary::given::counts_in(source),
+    boundary::to_c::answer_to_c(merge::merge(
+        boundary::from_c::counts_in(source),
         svertices,
         snormals,
         suvs,
         sindices,
-        boundary::given::counts_in(target),
+        boundary::from_c::counts_in(target),
         vertices,
         normals,
         uvs,

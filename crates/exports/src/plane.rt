@@ -2,10 +2,10 @@
 ghost use mathlib.Core.Path.{_≡_};
 ghost use Rattle.buffers.specs.Lent.{entering, become};
 ghost use Rattle.plane_builder.specs.Plane.{lent, planned, wholeAnswer, faceAnswer, built, faced};
-ghost use Rattle.boundary.specs.Given.{planeOf};
-ghost use Rattle.boundary.specs.Told.{told};
+ghost use Rattle.boundary.specs.FromC.{planeOf};
+ghost use Rattle.boundary.specs.ToC.{answerToC};
 use boundary::jobs::CPlane;
-use boundary::told::CAnswer;
+use boundary::to_c::CAnswer;
 
 // The counts of the job, or why it is refused.
 #[no_mangle]
@@ -15,9 +15,9 @@ pub extern "C" fn hosirekar_plane_plan(
     numbers: &[f32],
     marks: &[u8],
 ) -> CAnswer
-    ensures { λ r. ⌜ r ≡ told (planned (planeOf job) (lent corners numbers marks)) ⌝ }
+    ensures { λ r. ⌜ r ≡ answerToC (planned (planeOf job) (lent corners numbers marks)) ⌝ }
 {
-    boundary::told::tell(plane_builder::plan(
+    boundary::to_c::answer_to_c(plane_builder::plan(
         boundary::jobs::plane_of(job),
         corners,
         numbers,
@@ -37,10 +37,10 @@ pub extern "C" fn hosirekar_plane_build(
     uvs: &mut [f32],
     indices: &mut [u16],
 ) -> CAnswer
-    ensures answer { λ r. ⌜ r ≡ told (wholeAnswer (planeOf job) (lent corners numbers marks) (entering vertices normals uvs indices)) ⌝ }
+    ensures answer { λ r. ⌜ r ≡ answerToC (wholeAnswer (planeOf job) (lent corners numbers marks) (entering vertices normals uvs indices)) ⌝ }
     ensures buffers { λ _. ⌜ become (built (planeOf job) (lent corners numbers marks)) vertices normals uvs indices ⌝ }
 {
-    boundary::told::tell(plane_builder::build(
+    boundary::to_c::answer_to_c(plane_builder::build(
         boundary::jobs::plane_of(job),
         corners,
         numbers,
@@ -65,10 +65,10 @@ pub extern "C" fn hosirekar_plane_face(
     uvs: &mut [f32],
     indices: &mut [u16],
 ) -> CAnswer
-    ensures answer { λ r. ⌜ r ≡ told (faceAnswer (planeOf job) (lent corners numbers marks) number (entering vertices normals uvs indices)) ⌝ }
+    ensures answer { λ r. ⌜ r ≡ answerToC (faceAnswer (planeOf job) (lent corners numbers marks) number (entering vertices normals uvs indices)) ⌝ }
     ensures buffers { λ _. ⌜ become (faced (planeOf job) (lent corners numbers marks) number) vertices normals uvs indices ⌝ }
 {
-    boundary::told::tell(plane_builder::face(
+    boundary::to_c::answer_to_c(plane_builder::face(
         boundary::jobs::plane_of(job),
         corners,
         numbers,

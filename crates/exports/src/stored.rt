@@ -2,14 +2,14 @@
 ghost use mathlib.Core.Path.{_≡_};
 ghost use Rattle.buffers.specs.Lent.{entering, become};
 ghost use Rattle.mesh.specs.Stored.{scaleAnswer, scaled, offsetAnswer, shifted, textureScaleAnswer, textureScaled, centroidOf, uvCentroidOf};
-ghost use Rattle.boundary.specs.Given.{countsIn, vec2Of, vec3Of};
-ghost use Rattle.boundary.specs.Told.{told, toldCentroid, toldUvCentroid};
-use boundary::given::CCounts;
-use boundary::given::CVec2;
-use boundary::given::CVec3;
-use boundary::told::CAnswer;
-use boundary::told::CCentroid;
-use boundary::told::CUvCentroid;
+ghost use Rattle.boundary.specs.FromC.{countsIn, vec2Of, vec3Of};
+ghost use Rattle.boundary.specs.ToC.{answerToC, centroidToC, uvCentroidToC};
+use boundary::from_c::CCounts;
+use boundary::from_c::CVec2;
+use boundary::from_c::CVec3;
+use boundary::to_c::CAnswer;
+use boundary::to_c::CCentroid;
+use boundary::to_c::CUvCentroid;
 
 // Multiplies each position, component by component.
 #[no_mangle]
@@ -21,12 +21,12 @@ pub extern "C" fn hosirekar_scale(
     uvs: &[f32],
     indices: &[u16],
 ) -> CAnswer
-    ensures answer { λ r. ⌜ r ≡ told (scaleAnswer (countsIn counts) (vec3Of by) (entering vertices normals uvs indices)) ⌝ }
+    ensures answer { λ r. ⌜ r ≡ answerToC (scaleAnswer (countsIn counts) (vec3Of by) (entering vertices normals uvs indices)) ⌝ }
     ensures buffers { λ _. ⌜ become (scaled (countsIn counts) (vec3Of by)) vertices normals uvs indices ⌝ }
 {
-    boundary::told::tell(mesh::stored::scale(
-        boundary::given::counts_in(counts),
-        boundary::given::vec3_of(by),
+    boundary::to_c::answer_to_c(mesh::stored::scale(
+        boundary::from_c::counts_in(counts),
+        boundary::from_c::vec3_of(by),
         vertices,
         normals,
         uvs,
@@ -44,12 +44,12 @@ pub extern "C" fn hosirekar_offset(
     uvs: &[f32],
     indices: &[u16],
 ) -> CAnswer
-    ensures answer { λ r. ⌜ r ≡ told (offsetAnswer (countsIn counts) (vec3Of by) (entering vertices normals uvs indices)) ⌝ }
+    ensures answer { λ r. ⌜ r ≡ answerToC (offsetAnswer (countsIn counts) (vec3Of by) (entering vertices normals uvs indices)) ⌝ }
     ensures buffers { λ _. ⌜ become (shifted (countsIn counts) (vec3Of by)) vertices normals uvs indices ⌝ }
 {
-    boundary::told::tell(mesh::stored::offset(
-        boundary::given::counts_in(counts),
-        boundary::given::vec3_of(by),
+    boundary::to_c::answer_to_c(mesh::stored::offset(
+        boundary::from_c::counts_in(counts),
+        boundary::from_c::vec3_of(by),
         vertices,
         normals,
         uvs,
@@ -67,12 +67,12 @@ pub extern "C" fn hosirekar_texture_scale(
     uvs: &mut [f32],
     indices: &[u16],
 ) -> CAnswer
-    ensures answer { λ r. ⌜ r ≡ told (textureScaleAnswer (countsIn counts) (vec2Of by) (entering vertices normals uvs indices)) ⌝ }
+    ensures answer { λ r. ⌜ r ≡ answerToC (textureScaleAnswer (countsIn counts) (vec2Of by) (entering vertices normals uvs indices)) ⌝ }
     ensures buffers { λ _. ⌜ become (textureScaled (countsIn counts) (vec2Of by)) vertices normals uvs indices ⌝ }
 {
-    boundary::told::tell(mesh::stored::texture_scale(
-        boundary::given::counts_in(counts),
-        boundary::given::vec2_of(by),
+    boundary::to_c::answer_to_c(mesh::stored::texture_scale(
+        boundary::from_c::counts_in(counts),
+        boundary::from_c::vec2_of(by),
         vertices,
         normals,
         uvs,
@@ -89,10 +89,10 @@ pub extern "C" fn hosirekar_centroid(
     uvs: &[f32],
     indices: &[u16],
 ) -> CCentroid
-    ensures { λ r. ⌜ r ≡ toldCentroid (centroidOf (countsIn counts) (entering vertices normals uvs indices)) ⌝ }
+    ensures { λ r. ⌜ r ≡ centroidToC (centroidOf (countsIn counts) (entering vertices normals uvs indices)) ⌝ }
 {
-    boundary::told::tell_centroid(mesh::stored::centroid(
-        boundary::given::counts_in(counts),
+    boundary::to_c::centroid_to_c(mesh::stored::centroid(
+        boundary::from_c::counts_in(counts),
         vertices,
         normals,
         uvs,
@@ -109,10 +109,10 @@ pub extern "C" fn hosirekar_uv_centroid(
     uvs: &[f32],
     indices: &[u16],
 ) -> CUvCentroid
-    ensures { λ r. ⌜ r ≡ toldUvCentroid (uvCentroidOf (countsIn counts) (entering vertices normals uvs indices)) ⌝ }
+    ensures { λ r. ⌜ r ≡ uvCentroidToC (uvCentroidOf (countsIn counts) (entering vertices normals uvs indices)) ⌝ }
 {
-    boundary::told::tell_uv_centroid(mesh::stored::uv_centroid(
-        boundary::given::counts_in(counts),
+    boundary::to_c::uv_centroid_to_c(mesh::stored::uv_centroid(
+        boundary::from_c::counts_in(counts),
         vertices,
         normals,
         uvs,

@@ -1,9 +1,9 @@
--- `hosirekar_cheap_column_plan`: the function below it, with what is given carried over and its answer told. Assumes nothing.
+-- `hosirekar_cheap_column_plan`: the function below it, with what is given carried from C and its answer to C. Assumes nothing.
 use borrow.Author.Needs.{needs}
 use denote.Ref.{now}
 use Rattle.cheap_column.specs.declared.CheapColumn.{CheapColumn}
 use Rattle.cheap_column.specs.CheapColumn.{planned}
-use Rattle.boundary.specs.Told.{told}
+use Rattle.boundary.specs.ToC.{answerToC}
 use Rattle.exports.proofs.Carried.{carried}
 use Rattle.exports.proofs.cheap.hosirekar_cheap_column_plan.Statement.{statement}
 use Rattle.exports.proofs.cheap.hosirekar_cheap_column_plan.Tie as tie
@@ -17,4 +17,4 @@ hosirekar-cheap-column-plan-spec =
     (λ c κs. search needs)
     (λ c.
     let a = c .before .before .before .before .args in
-    carried told (c .tell .ensures) (carried (λ (j : CheapColumn). planned j (now (a .corners))) (c .before .plan .ensures) (c .before .before .cheap-column-of .ensures))))
+    carried answerToC (c .answer-to-c .ensures) (carried (λ (j : CheapColumn). planned j (now (a .corners))) (c .before .plan .ensures) (c .before .before .cheap-column-of .ensures))))

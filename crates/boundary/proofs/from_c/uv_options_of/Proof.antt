@@ -1,7 +1,7 @@
 -- `uv_options_of`: field by field. Assumes nothing.
 use borrow.Author.Needs.{needs}
-use Rattle.boundary.proofs.given.uv_options_of.Statement.{statement}
-use Rattle.boundary.proofs.given.uv_options_of.Tie as tie
+use Rattle.boundary.proofs.from_c.uv_options_of.Statement.{statement}
+use Rattle.boundary.proofs.from_c.uv_options_of.Tie as tie
 
 pub uv-options-of-spec : {M : Type 1} → statement M
 uv-options-of-spec =

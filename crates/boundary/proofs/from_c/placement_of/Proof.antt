@@ -1,7 +1,7 @@
 -- `placement_of`: field by field. Assumes nothing.
 use borrow.Author.Needs.{needs}
-use Rattle.boundary.proofs.given.placement_of.Statement.{statement}
-use Rattle.boundary.proofs.given.placement_of.Tie as tie
+use Rattle.boundary.proofs.from_c.placement_of.Statement.{statement}
+use Rattle.boundary.proofs.from_c.placement_of.Tie as tie
 
 pub placement-of-spec : {M : Type 1} → statement M
 placement-of-spec =

@@ -1,7 +1,7 @@
 // What a caller hands over by value. Where something may be left out, a bool says whether it is
 // given; what stands beside a bool that says no is not read.
 ghost use mathlib.Core.Path.{_≡_};
-ghost use Rattle.boundary.specs.Given.{vec2Of, vec3Of, countsIn, choice3Of, turnOf, placementOf, uvOptionsOf};
+ghost use Rattle.boundary.specs.FromC.{vec2Of, vec3Of, countsIn, choice3Of, turnOf, placementOf, uvOptionsOf};
 use face::triangle::Counts;
 use face::triangle::IndexPlace;
 use face::triangle::VertexNumber;

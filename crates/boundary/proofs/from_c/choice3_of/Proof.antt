@@ -1,7 +1,7 @@
 -- `choice3_of`: by what its bool says. Assumes nothing.
 use borrow.Author.Needs.{needs}
-use Rattle.boundary.proofs.given.choice3_of.Statement.{statement}
-use Rattle.boundary.proofs.given.choice3_of.Tie as tie
+use Rattle.boundary.proofs.from_c.choice3_of.Statement.{statement}
+use Rattle.boundary.proofs.from_c.choice3_of.Tie as tie
 
 pub choice3-of-spec : {M : Type 1} → statement M
 choice3-of-spec =

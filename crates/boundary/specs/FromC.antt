@@ -23,18 +23,18 @@ use Rattle.column.specs.declared.Subdivisions.{Subdivisions}
 use Rattle.column.specs.declared.Subdivisions.the-variants as subdivisions
 use Rattle.column.specs.declared.Side.{Side}
 use Rattle.column.specs.declared.Column.{Column}
-use Rattle.boundary.specs.declared.given.CVec2.{CVec2}
-use Rattle.boundary.specs.declared.given.CVec3.{CVec3}
-use Rattle.boundary.specs.declared.given.CCounts.{CCounts}
-use Rattle.boundary.specs.declared.given.CChoice3.{CChoice3}
-use Rattle.boundary.specs.declared.given.CTurn.{CTurn}
-use Rattle.boundary.specs.declared.given.CPlacement.{CPlacement}
+use Rattle.boundary.specs.declared.from_c.CVec2.{CVec2}
+use Rattle.boundary.specs.declared.from_c.CVec3.{CVec3}
+use Rattle.boundary.specs.declared.from_c.CCounts.{CCounts}
+use Rattle.boundary.specs.declared.from_c.CChoice3.{CChoice3}
+use Rattle.boundary.specs.declared.from_c.CTurn.{CTurn}
+use Rattle.boundary.specs.declared.from_c.CPlacement.{CPlacement}
 use Rattle.boundary.specs.declared.jobs.CPlane.{CPlane}
 use Rattle.boundary.specs.declared.jobs.CChoice.{CChoice}
 use Rattle.boundary.specs.declared.jobs.CSubdivisions.{CSubdivisions}
 use Rattle.boundary.specs.declared.jobs.CColumn.{CColumn}
 use Rattle.boundary.specs.declared.jobs.CCheapColumn.{CCheapColumn}
-use Rattle.boundary.specs.declared.given.CUvOptions.{CUvOptions}
+use Rattle.boundary.specs.declared.from_c.CUvOptions.{CUvOptions}
 
 abbrev pub vec2Of : CVec2 → Vec2
 vec2Of p = v2 (p .x) (p .y)

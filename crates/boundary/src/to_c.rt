@@ -1,8 +1,8 @@
 // What a caller is told: a number, 0 or that of a refusal, and the counts. The spare number is 0.
 ghost use mathlib.Core.Path.{_≡_};
-ghost use Rattle.boundary.specs.Told.{told, told2, told3, toldCentroid, toldUvCentroid};
-use crate::given::CVec2;
-use crate::given::CVec3;
+ghost use Rattle.boundary.specs.ToC.{answerToC, pointToC, point3ToC, centroidToC, uvCentroidToC};
+use crate::from_c::CVec2;
+use crate::from_c::CVec3;
 use answer::answer::Answer;
 use face::vec::Vec2;
 use face::vec::Vec3;
@@ -29,8 +29,8 @@ pub struct CUvCentroid {
     pub centroid: CVec2,
 }
 
-pub fn tell(answer: Answer) -> CAnswer
-    ensures { λ r. ⌜ r ≡ told answer ⌝ }
+pub fn answer_to_c(answer: Answer) -> CAnswer
+    ensures { λ r. ⌜ r ≡ answerToC answer ⌝ }
 {
     let counts = answer::answer::counts_of(answer);
     CAnswer {
@@ -41,14 +41,14 @@ pub fn tell(answer: Answer) -> CAnswer
     }
 }
 
-pub fn tell2(p: Vec2) -> CVec2
-    ensures { λ r. ⌜ r ≡ told2 p ⌝ }
+pub fn point_to_c(p: Vec2) -> CVec2
+    ensures { λ r. ⌜ r ≡ pointToC p ⌝ }
 {
     CVec2 { x: p.x, y: p.y }
 }
 
-pub(crate) fn tell3(p: Vec3) -> CVec3
-    ensures { λ r. ⌜ r ≡ told3 p ⌝ }
+pub(crate) fn point3_to_c(p: Vec3) -> CVec3
+    ensures { λ r. ⌜ r ≡ point3ToC p ⌝ }
 {
     CVec3 {
         x: p.x,
@@ -57,24 +57,24 @@ pub(crate) fn tell3(p: Vec3) -> CVec3
     }
 }
 
-pub fn tell_centroid(c: CentroidAnswer) -> CCentroid
-    ensures { λ r. ⌜ r ≡ toldCentroid c ⌝ }
+pub fn centroid_to_c(c: CentroidAnswer) -> CCentroid
+    ensures { λ r. ⌜ r ≡ centroidToC c ⌝ }
 {
     let inner = c.answer;
-    let answer = tell(inner);
-    let centroid = tell3(c.centroid);
+    let answer = answer_to_c(inner);
+    let centroid = point3_to_c(c.centroid);
     CCentroid {
         answer: answer,
         centroid: centroid,
     }
 }
 
-pub fn tell_uv_centroid(c: UvCentroidAnswer) -> CUvCentroid
-    ensures { λ r. ⌜ r ≡ toldUvCentroid c ⌝ }
+pub fn uv_centroid_to_c(c: UvCentroidAnswer) -> CUvCentroid
+    ensures { λ r. ⌜ r ≡ uvCentroidToC c ⌝ }
 {
     let inner = c.answer;
-    let answer = tell(inner);
-    let centroid = tell2(c.centroid);
+    let answer = answer_to_c(inner);
+    let centroid = point_to_c(c.centroid);
     CUvCentroid {
         answer: answer,
         centroid: centroid,

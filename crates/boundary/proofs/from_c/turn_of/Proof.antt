@@ -1,7 +1,7 @@
 -- `turn_of`: by what its bool says. Assumes nothing.
 use borrow.Author.Needs.{needs}
-use Rattle.boundary.proofs.given.turn_of.Statement.{statement}
-use Rattle.boundary.proofs.given.turn_of.Tie as tie
+use Rattle.boundary.proofs.from_c.turn_of.Statement.{statement}
+use Rattle.boundary.proofs.from_c.turn_of.Tie as tie
 
 pub turn-of-spec : {M : Type 1} → statement M
 turn-of-spec =

@@ -1,0 +1,29 @@
+-- Answers as a caller from C is told them; R10 is a row of docs/TRACE.md. Definitions only.
+use Rattle.face.specs.declared.vec.Vec2.{Vec2}
+use Rattle.face.specs.declared.vec.Vec3.{Vec3}
+use Rattle.answer.specs.declared.answer.Answer.{Answer}
+use Rattle.answer.specs.Answers.{numberOf, countsOf}
+use Rattle.mesh.specs.declared.stored.CentroidAnswer.{CentroidAnswer}
+use Rattle.mesh.specs.declared.stored.UvCentroidAnswer.{UvCentroidAnswer}
+use Rattle.boundary.specs.declared.from_c.CVec2.{CVec2}
+use Rattle.boundary.specs.declared.from_c.CVec3.{CVec3}
+use Rattle.boundary.specs.declared.to_c.CAnswer.{CAnswer}
+use Rattle.boundary.specs.declared.to_c.CCentroid.{CCentroid}
+use Rattle.boundary.specs.declared.to_c.CUvCentroid.{CUvCentroid}
+
+-- the number and the counts; the spare number is 0
+abbrev pub answerToC : Answer → CAnswer
+answerToC a = record { number = numberOf a; spare = 0; vertices = countsOf a .vertices .0; indices = countsOf a .indices .0 }
+
+abbrev pub pointToC : Vec2 → CVec2
+pointToC p = record { x = p .x; y = p .y }
+
+abbrev pub point3ToC : Vec3 → CVec3
+point3ToC p = record { x = p .x; y = p .y; z = p .z }
+
+-- the value beside an answer; it is +0 already where that is a refusal
+abbrev pub centroidToC : CentroidAnswer → CCentroid
+centroidToC c = record { answer = answerToC (c .answer); centroid = point3ToC (c .centroid) }
+
+abbrev pub uvCentroidToC : UvCentroidAnswer → CUvCentroid
+uvCentroidToC c = record { answer = answerToC (c .answer); centroid = pointToC (c .centroid) }
