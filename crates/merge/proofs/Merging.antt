@@ -17,8 +17,8 @@ use Rattle.answer.proofs.Laws.{Roomy, every-at, given-done, done-limited, roome
 use Rattle.buffers.specs.Mesh.{also}
 use Rattle.buffers.specs.Laying.{Buffers}
 use Rattle.buffers.proofs.Rooms.{both}
-use Rattle.mesh.specs.Stored.{held}
-use Rattle.mesh.proofs.Moving.{held-room}
+use Rattle.mesh.specs.Stored.{holdsCounts}
+use Rattle.mesh.proofs.Moving.{holds-room}
 use Rattle.merge.specs.Merge.{below, mergeTested, mergeAnswer}
 
 pub record Merge (s : Counts) (sv sn st : ℕ) (si : List ℕ) (t : Counts) (v n u i : ℕ) : Type 0 where
@@ -37,7 +37,7 @@ module _ (s : Counts) (sv sn st : ℕ) (si : List ℕ) (t : Counts) (v n u i : �
         l .1,
         both _ _ (p .0) (λ x y.
             record {
-              source = held-room s sv sn st (length si) x;
+              source = holds-room s sv sn st (length si) x;
               own = λ k h. ltb-true _ _ (every-at (below (s .vertices .0)) (take (s .indices .0) si) 0 k (q .0) h);
               limit = l .0;
               room = rw (l .1) (r .1);
@@ -57,17 +57,17 @@ module _ (s : Counts) (sv sn st : ℕ) (si : List ℕ) (t : Counts) (v n u i : �
   abbrev tests : Answer
   tests = given (every (below (s .vertices .0)) (take (s .indices .0) si)) Index (roomed (limited (also t s)) v n u i)
 
-  pub unheld-source : held s sv sn st (length si) ≡ false → Refused Shape ≡ mergeTested s sv sn st si t v n u i
-  unheld-source e = sym (ap (λ (x : Bool). given (x && held t v n u i) Shape tests) e)
+  pub source-short : holdsCounts s sv sn st (length si) ≡ false → Refused Shape ≡ mergeTested s sv sn st si t v n u i
+  source-short e = sym (ap (λ (x : Bool). given (x && holdsCounts t v n u i) Shape tests) e)
 
-  after-source : held s sv sn st (length si) ≡ true → (y : Bool) → held t v n u i ≡ y
+  after-source : holdsCounts s sv sn st (length si) ≡ true → (y : Bool) → holdsCounts t v n u i ≡ y
       → given y Shape (given (every (below (s .vertices .0)) (take (s .indices .0) si)) Index (roomed (limited (also t s)) v n u i)) ≡ mergeTested s sv sn st si t v n u i
   after-source e y f = sym (ap₂ (λ (p q : Bool). given (p && q) Shape tests) e f)
 
-  pub unheld-target : held s sv sn st (length si) ≡ true → held t v n u i ≡ false → Refused Shape ≡ mergeTested s sv sn st si t v n u i
-  unheld-target e f = after-source e false f
+  pub target-short : holdsCounts s sv sn st (length si) ≡ true → holdsCounts t v n u i ≡ false → Refused Shape ≡ mergeTested s sv sn st si t v n u i
+  target-short e f = after-source e false f
 
-  pub own-decide : held s sv sn st (length si) ≡ true → held t v n u i ≡ true → (z : Bool) → every (below (s .vertices .0)) (take (s .indices .0) si) ≡ z
+  pub own-decide : holdsCounts s sv sn st (length si) ≡ true → holdsCounts t v n u i ≡ true → (z : Bool) → every (below (s .vertices .0)) (take (s .indices .0) si) ≡ z
       → given z Index (roomed (limited (also t s)) v n u i) ≡ mergeTested s sv sn st si t v n u i
   own-decide e f z g = sym (ap (λ (w : Bool). given w Index (roomed (limited (also t s)) v n u i)) g) ∙ after-source e true f
 

@@ -11,7 +11,7 @@ use Rattle.answer.specs.Answers.{given, limited, roomed, after}
 use Rattle.answer.specs.Checks.{every}
 use Rattle.buffers.specs.Mesh.{also}
 use Rattle.buffers.specs.Laying.{Buffers, four, laid}
-use Rattle.mesh.specs.Stored.{held}
+use Rattle.mesh.specs.Stored.{holdsCounts}
 
 -- R7
 abbrev pub below : ℕ → ℕ → Bool
@@ -20,7 +20,7 @@ below m x = ltb x m
 -- R13: 1, 7, 4, 5, from the lengths of the lists and the source's indices
 abbrev pub mergeTested : Counts → ℕ → ℕ → ℕ → List ℕ → Counts → ℕ → ℕ → ℕ → ℕ → Answer
 mergeTested s sv sn st si t v n u i =
-    given (held s sv sn st (length si) && held t v n u i) Shape
+    given (holdsCounts s sv sn st (length si) && holdsCounts t v n u i) Shape
     (given (every (below (s .vertices .0)) (take (s .indices .0) si)) Index
     (roomed (limited (also t s)) v n u i))
 

@@ -36,7 +36,7 @@ fn all_below(numbers: &[u16], limit: usize) -> bool
     true
 }
 
-// The answer of a merge. Both meshes are known to be held before a sum is formed, so none wraps.
+// The answer of a merge. The lists are known to hold both meshes before a sum is formed, so none wraps.
 fn answer_of(
     source: Counts,
     svertices: usize,
@@ -52,10 +52,10 @@ fn answer_of(
     requires { ⌜ indices < 2 ^ 63 ⌝ }
     ensures { λ r. ⌜ r ≡ mergeTested source svertices snormals suvs (now (sindices .entry)) target vertices normals uvs indices ⌝ }
 {
-    if !mesh::stored::is_held(source, svertices, snormals, suvs, sindices.len()) {
+    if !mesh::stored::holds_counts(source, svertices, snormals, suvs, sindices.len()) {
         return Answer::Refused(Refusal::Shape);
     }
-    if !mesh::stored::is_held(target, vertices, normals, uvs, indices) {
+    if !mesh::stored::holds_counts(target, vertices, normals, uvs, indices) {
         return Answer::Refused(Refusal::Shape);
     }
     let n = source.indices.0;

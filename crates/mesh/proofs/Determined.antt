@@ -12,10 +12,10 @@ use Rattle.answer.specs.declared.answer.Answer.{Answer}
 use Rattle.buffers.specs.Laying.{Buffers, four}
 use Rattle.mesh.specs.declared.stored.CentroidAnswer.{CentroidAnswer}
 use Rattle.mesh.specs.declared.stored.UvCentroidAnswer.{UvCentroidAnswer}
-use Rattle.mesh.specs.Stored.{held, scaled, shifted, textureScaled, scaleAnswer, offsetAnswer, textureScaleAnswer, centroidOf, uvCentroidOf}
+use Rattle.mesh.specs.Stored.{holdsCounts, scaled, shifted, textureScaled, scaleAnswer, offsetAnswer, textureScaleAnswer, centroidOf, uvCentroidOf}
 
-pub is-held-determined : (c : Counts) (v n t i : ℕ) (r s : Bool) → r ≡ held c v n t i → s ≡ held c v n t i → r ≡ s
-is-held-determined c v n t i r s p q = determined p q
+pub holds-counts-determined : (c : Counts) (v n t i : ℕ) (r s : Bool) → r ≡ holdsCounts c v n t i → s ≡ holdsCounts c v n t i → r ≡ s
+holds-counts-determined c v n t i r s p q = determined p q
 
 module _ (c : Counts) (v n t : List Float) (i : List ℕ) where
   abbrev lent : Buffers

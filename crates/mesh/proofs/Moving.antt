@@ -26,7 +26,7 @@ use Rattle.answer.proofs.Laws.{Roomy, given-done, done-limited, not-done, same-
 use Rattle.buffers.specs.Laying.{Buffers, three, two, laid}
 use Rattle.buffers.proofs.Laid.{Laying, laying-more, laid-outside, chain-length}
 use Rattle.buffers.proofs.Rooms.{both}
-use Rattle.mesh.specs.Stored.{held, answerOf, centroidAnswer, notEmpty, pointFrom, uvFrom}
+use Rattle.mesh.specs.Stored.{holdsCounts, answerOf, centroidAnswer, notEmpty, pointFrom, uvFrom}
 
 -- ---- a loop that replaces n numbers a turn by a part made of them: it reads from its place on
 -- alone, so what is laid before that place does not change it
@@ -97,8 +97,8 @@ pub record Kept (c d : Counts) (B : Buffers) : Type 0 where
   pub room : Roomy d (length (B .vertices)) (length (B .normals)) (length (B .uvs)) (length (B .indices))
 
 -- lists that hold what the counts say
-pub held-room : (c : Counts) (v n t i : ℕ) → held c v n t i ≡ true → Roomy c v n t i
-held-room c v n t i e =
+pub holds-room : (c : Counts) (v n t i : ℕ) → holdsCounts c v n t i ≡ true → Roomy c v n t i
+holds-room c v n t i e =
     both _ _ e (λ p e₁. both _ _ e₁ (λ q e₂. both _ _ e₂ (λ r s.
     record { vertices = leb-true _ _ p; normals = leb-true _ _ q; uvs = leb-true _ _ r; indices = leb-true _ _ s })))
 
@@ -111,9 +111,9 @@ notEmpty-done (Done c) d p =
 module _ (c : Counts) (B : Buffers) where
   pub stored-done : (good : Bool) (d : Counts) → answerOf c good B ≡ Done d → Kept c d B
   stored-done good d e =
-      let h = given-done (held c _ _ _ _) Shape _ e in
+      let h = given-done (holdsCounts c _ _ _ _) Shape _ e in
       let l = done-limited c d (given-done good Range (limited c) (h .1) .1) in
-      record { same = l .1; limit = rw (l .1) at (l .0); room = rw (l .1) at (held-room c _ _ _ _ (h .0)) }
+      record { same = l .1; limit = rw (l .1) at (l .0); room = rw (l .1) at (holds-room c _ _ _ _ (h .0)) }
 
   -- the code's answer a is matched on; good is what its own test of the parameter says
   module _ (ok : Bool) where

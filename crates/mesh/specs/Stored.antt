@@ -21,12 +21,12 @@ use Rattle.mesh.specs.declared.stored.CentroidAnswer.{CentroidAnswer}
 use Rattle.mesh.specs.declared.stored.UvCentroidAnswer.{UvCentroidAnswer}
 
 -- R1: lists of these lengths hold what the counts say; they may hold more
-abbrev pub held : Counts → ℕ → ℕ → ℕ → ℕ → Bool
-held c v n t i = leb (3 * c .vertices .0) v && (leb (3 * c .vertices .0) n && (leb (2 * c .vertices .0) t && leb (c .indices .0) i))
+abbrev pub holdsCounts : Counts → ℕ → ℕ → ℕ → ℕ → Bool
+holdsCounts c v n t i = leb (3 * c .vertices .0) v && (leb (3 * c .vertices .0) n && (leb (2 * c .vertices .0) t && leb (c .indices .0) i))
 
 -- R14: 1, 2, 4; whether the parameter is in range is told
 abbrev pub storedAnswer : Counts → Bool → ℕ → ℕ → ℕ → ℕ → Answer
-storedAnswer c good v n t i = given (held c v n t i) Shape (given good Range (limited c))
+storedAnswer c good v n t i = given (holdsCounts c v n t i) Shape (given good Range (limited c))
 
 abbrev pub answerOf : Counts → Bool → Buffers → Answer
 answerOf c good B = storedAnswer c good (length (B .vertices)) (length (B .normals)) (length (B .uvs)) (length (B .indices))

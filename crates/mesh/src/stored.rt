@@ -7,7 +7,7 @@ ghost use lib.ListN.{length};
 ghost use Rattle.face.specs.Vec.{plus2, plus3, zero2, zero3};
 ghost use Rattle.buffers.specs.Laying.{three, two, laid};
 ghost use Rattle.buffers.specs.Lent.{entering, become};
-ghost use Rattle.mesh.specs.Stored.{held, storedAnswer, notEmpty, pointFrom, uvFrom, stretched3, stretched2, movedPoints, movedUvs, pointsOf, uvsOf, scaled, shifted, textureScaled, scaleAnswer, offsetAnswer, textureScaleAnswer, meanOf3, meanOf2, centroidOf, uvCentroidOf};
+ghost use Rattle.mesh.specs.Stored.{holdsCounts, storedAnswer, notEmpty, pointFrom, uvFrom, stretched3, stretched2, movedPoints, movedUvs, pointsOf, uvsOf, scaled, shifted, textureScaled, scaleAnswer, offsetAnswer, textureScaleAnswer, meanOf3, meanOf2, centroidOf, uvCentroidOf};
 use answer::answer::Answer;
 use answer::answer::Refusal;
 use face::triangle::Counts;
@@ -25,8 +25,14 @@ pub struct UvCentroidAnswer {
 }
 
 // Whether lists of these lengths hold what the counts say.
-pub fn is_held(counts: Counts, vertices: usize, normals: usize, uvs: usize, indices: usize) -> bool
-    ensures { λ r. ⌜ r ≡ held counts vertices normals uvs indices ⌝ }
+pub fn holds_counts(
+    counts: Counts,
+    vertices: usize,
+    normals: usize,
+    uvs: usize,
+    indices: usize,
+) -> bool
+    ensures { λ r. ⌜ r ≡ holdsCounts counts vertices normals uvs indices ⌝ }
 {
     let v = counts.vertices.0;
     if v > vertices / 3 {
@@ -51,7 +57,7 @@ fn answer_of(
 ) -> Answer
     ensures { λ r. ⌜ r ≡ storedAnswer counts good vertices normals uvs indices ⌝ }
 {
-    if is_held(counts, vertices, normals, uvs, indices) {
+    if holds_counts(counts, vertices, normals, uvs, indices) {
         if good {
             return answer::answer::limit(counts);
         }

@@ -1,12 +1,12 @@
--- `answer_of`: both meshes are held, then the source's indices, the limit and the room. Assumes nothing.
+-- `answer_of`: the lists hold both meshes, then the source's indices, the limit and the room. Assumes nothing.
 use borrow.Author.Needs.{needs}
 use native.Mathlib.Omega.{arith}
 use mathlib.Core.Path.{sym, _∙_}
 use denote.Ref.{now}
 use lib.ListN.{length}
 use lib.Seq.{length-take-le}
-use Rattle.mesh.proofs.Moving.{held-room}
-use Rattle.merge.proofs.Merging.{not-so, so, unheld-source, unheld-target, own-decide}
+use Rattle.mesh.proofs.Moving.{holds-room}
+use Rattle.merge.proofs.Merging.{not-so, so, source-short, target-short, own-decide}
 use Rattle.merge.proofs.answer_of.Statement.{statement}
 use Rattle.merge.proofs.answer_of.Tie as tie
 
@@ -17,31 +17,31 @@ answer-of-spec =
     (λ c κs. search needs)
     (λ c.
     let a = c .before .before .before .args in
-    unheld-source (a .source) (a .svertices) (a .snormals) (a .suvs) (now (a .sindices)) (a .target) (a .vertices) (a .normals) (a .uvs) (a .indices) (sym (c .before .is-held .ensures) ∙ not-so _ (c .if1 .taken)))
+    source-short (a .source) (a .svertices) (a .snormals) (a .suvs) (now (a .sindices)) (a .target) (a .vertices) (a .normals) (a .uvs) (a .indices) (sym (c .before .holds-counts .ensures) ∙ not-so _ (c .if1 .taken)))
     (λ c κs. search needs)
     (λ c.
     let a = c .before .before .before .before .before .args in
-    unheld-target (a .source) (a .svertices) (a .snormals) (a .suvs) (now (a .sindices)) (a .target) (a .vertices) (a .normals) (a .uvs) (a .indices) (sym (c .before .before .before .is-held .ensures) ∙ so _ (c .before .before .if1 .left)) (sym (c .before .is-held2 .ensures) ∙ not-so _ (c .if2 .taken)))
+    target-short (a .source) (a .svertices) (a .snormals) (a .suvs) (now (a .sindices)) (a .target) (a .vertices) (a .normals) (a .uvs) (a .indices) (sym (c .before .before .before .holds-counts .ensures) ∙ so _ (c .before .before .if1 .left)) (sym (c .before .holds-counts2 .ensures) ∙ not-so _ (c .if2 .taken)))
     (λ c.
     let a = c .before .before .before .before .before .before .args in
-    let h = held-room (a .source) (a .svertices) (a .snormals) (a .suvs) (length (now (a .sindices))) (sym (c .before .before .before .before .is-held .ensures) ∙ so _ (c .before .before .before .if1 .left)) in
+    let h = holds-room (a .source) (a .svertices) (a .snormals) (a .suvs) (length (now (a .sindices))) (sym (c .before .before .before .before .holds-counts .ensures) ∙ so _ (c .before .before .before .if1 .left)) in
     sym (length-take-le _ _ (h .indices)))
     (λ c κs. search needs)
     (λ c.
     let a = c .before .before .before .before .before .before .before .before .before .before .args in
-    let s = held-room (a .source) (a .svertices) (a .snormals) (a .suvs) (length (now (a .sindices))) (sym (c .before .before .before .before .before .before .before .before .is-held .ensures) ∙ so _ (c .before .before .before .before .before .before .before .if1 .left)) in
-    let t = held-room (a .target) (a .vertices) (a .normals) (a .uvs) (a .indices) (sym (c .before .before .before .before .before .before .is-held2 .ensures) ∙ so _ (c .before .before .before .before .before .if2 .left)) in
+    let s = holds-room (a .source) (a .svertices) (a .snormals) (a .suvs) (length (now (a .sindices))) (sym (c .before .before .before .before .before .before .before .before .holds-counts .ensures) ∙ so _ (c .before .before .before .before .before .before .before .if1 .left)) in
+    let t = holds-room (a .target) (a .vertices) (a .normals) (a .uvs) (a .indices) (sym (c .before .before .before .before .before .before .holds-counts2 .ensures) ∙ so _ (c .before .before .before .before .before .if2 .left)) in
     omega (arith, s .vertices, t .vertices))
     (λ c.
     let a = c .before .before .before .before .before .before .before .before .before .before .before .args in
-    let s = held-room (a .source) (a .svertices) (a .snormals) (a .suvs) (length (now (a .sindices))) (sym (c .before .before .before .before .before .before .before .before .before .is-held .ensures) ∙ so _ (c .before .before .before .before .before .before .before .before .if1 .left)) in
-    let t = held-room (a .target) (a .vertices) (a .normals) (a .uvs) (a .indices) (sym (c .before .before .before .before .before .before .before .is-held2 .ensures) ∙ so _ (c .before .before .before .before .before .before .if2 .left)) in
+    let s = holds-room (a .source) (a .svertices) (a .snormals) (a .suvs) (length (now (a .sindices))) (sym (c .before .before .before .before .before .before .before .before .before .holds-counts .ensures) ∙ so _ (c .before .before .before .before .before .before .before .before .if1 .left)) in
+    let t = holds-room (a .target) (a .vertices) (a .normals) (a .uvs) (a .indices) (sym (c .before .before .before .before .before .before .before .holds-counts2 .ensures) ∙ so _ (c .before .before .before .before .before .before .if2 .left)) in
     omega (arith, s .indices, t .indices, c .before .before .before .before .before .before .before .before .before .before .before .good .1 .1 .1 .1 .0 .1, c .before .before .before .before .before .before .before .before .before .before .before .pre))
     (λ c κs. search needs)
     (λ c κs. search needs)
     (λ c.
     let a = c .before .before .before .before .before .before .before .before .before .before .before .before .before .args in
-    rw (c .room .ensures, c .before .limit .ensures) (own-decide (a .source) (a .svertices) (a .snormals) (a .suvs) (now (a .sindices)) (a .target) (a .vertices) (a .normals) (a .uvs) (a .indices) (sym (c .before .before .before .before .before .before .before .before .before .before .before .is-held .ensures) ∙ so _ (c .before .before .before .before .before .before .before .before .before .before .if1 .left)) (sym (c .before .before .before .before .before .before .before .before .before .is-held2 .ensures) ∙ so _ (c .before .before .before .before .before .before .before .before .if2 .left)) _ (sym (c .before .before .before .before .before .before .all-below .ensures) ∙ c .before .before .before .before .before .if3 .taken)))
+    rw (c .room .ensures, c .before .limit .ensures) (own-decide (a .source) (a .svertices) (a .snormals) (a .suvs) (now (a .sindices)) (a .target) (a .vertices) (a .normals) (a .uvs) (a .indices) (sym (c .before .before .before .before .before .before .before .before .before .before .before .holds-counts .ensures) ∙ so _ (c .before .before .before .before .before .before .before .before .before .before .if1 .left)) (sym (c .before .before .before .before .before .before .before .before .before .holds-counts2 .ensures) ∙ so _ (c .before .before .before .before .before .before .before .before .if2 .left)) _ (sym (c .before .before .before .before .before .before .all-below .ensures) ∙ c .before .before .before .before .before .if3 .taken)))
     (λ c.
     let a = c .before .before .before .before .before .before .before .before .args in
-    own-decide (a .source) (a .svertices) (a .snormals) (a .suvs) (now (a .sindices)) (a .target) (a .vertices) (a .normals) (a .uvs) (a .indices) (sym (c .before .before .before .before .before .before .is-held .ensures) ∙ so _ (c .before .before .before .before .before .if1 .left)) (sym (c .before .before .before .before .is-held2 .ensures) ∙ so _ (c .before .before .before .if2 .left)) _ (sym (c .before .all-below .ensures) ∙ c .if3 .left)))
+    own-decide (a .source) (a .svertices) (a .snormals) (a .suvs) (now (a .sindices)) (a .target) (a .vertices) (a .normals) (a .uvs) (a .indices) (sym (c .before .before .before .before .before .before .holds-counts .ensures) ∙ so _ (c .before .before .before .before .before .if1 .left)) (sym (c .before .before .before .before .holds-counts2 .ensures) ∙ so _ (c .before .before .before .if2 .left)) _ (sym (c .before .all-below .ensures) ∙ c .if3 .left)))

@@ -10,6 +10,6 @@ answer-of-spec =
     (tie.spec
     (λ c κs. search needs)
     (λ c κs. search needs)
-    (λ c. rw (sym (c .before .before .before .is-held .ensures) ∙ c .before .before .if1 .taken, c .before .if2 .taken) (c .limit .ensures))
-    (λ c. rw (sym (c .before .before .is-held .ensures) ∙ c .before .if1 .taken, c .if2 .left))
-    (λ c. rw (sym (c .before .is-held .ensures) ∙ c .if1 .left)))
+    (λ c. rw (sym (c .before .before .before .holds-counts .ensures) ∙ c .before .before .if1 .taken, c .before .if2 .taken) (c .limit .ensures))
+    (λ c. rw (sym (c .before .before .holds-counts .ensures) ∙ c .before .if1 .taken, c .if2 .left))
+    (λ c. rw (sym (c .before .holds-counts .ensures) ∙ c .if1 .left)))

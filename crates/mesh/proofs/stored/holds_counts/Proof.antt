@@ -1,11 +1,11 @@
--- `is_held`: each test of a quotient is that of a product. Assumes nothing.
+-- `holds_counts`: each test of a quotient is that of a product. Assumes nothing.
 use native.Mathlib.Omega.{arith}
 use Rattle.answer.proofs.Laws.{roomy, short}
-use Rattle.mesh.proofs.stored.is_held.Statement.{statement}
-use Rattle.mesh.proofs.stored.is_held.Tie as tie
+use Rattle.mesh.proofs.stored.holds_counts.Statement.{statement}
+use Rattle.mesh.proofs.stored.holds_counts.Tie as tie
 
-pub is-held-spec : {M : Type 1} → statement M
-is-held-spec =
+pub holds-counts-spec : {M : Type 1} → statement M
+holds-counts-spec =
     tie.close
     (tie.spec
     (λ c. simp (short 3 _ _ (omega arith) (c .if1 .taken)))
