@@ -32,7 +32,8 @@ use Rattle.column.specs.declared.Side.{Side}
 use Rattle.column.specs.declared.Column.{Column}
 use Rattle.column.specs.declared.Name.{Name}
 use Rattle.column.specs.declared.Name.the-variants.{OfSide, Top, Bottom}
-use Rattle.column.specs.Column.{Lists, partsOf, sideAt, capNames, partNames, sideNames, columnNames, partQuad, wallStand, topStand, bottomStand, meshOf, columnFaces, many, sideCounts, capCounts, sidesCounts, columnCounts, shapeOf, rangeOf, planned}
+use Rattle.column.specs.Column.{Lists, partsOf, sideAt, capNames, partNames, sideNames, columnNames, partQuad, wallStand, topStand, bottomStand, meshOf, columnFaces, shapeOf, rangeOf, planned}
+use Rattle.column.specs.Counts.{many, sideCounts, capCounts, sidesCounts, columnCounts}
 
 -- ---- faces of one size, counted at once
 pub each-same : {N : Type 0} (f : N → Mesh) (g : ℕ → N) (c : Counts) → ((k : ℕ) → sizeOf (f (g k)) ≡ c) → (n : ℕ) → measure (map f (each g n)) ≡ many n c

@@ -15,7 +15,8 @@ use Rattle.column.specs.declared.Subdivisions.{Subdivisions}
 use Rattle.column.specs.declared.Side.{Side}
 use Rattle.column.specs.declared.Column.{Column}
 use Rattle.column.specs.declared.Name.{Name}
-use Rattle.column.specs.Column.{Lists, partsOf, delta, sideAt, columnNames, topStand, bottomStand, sideCounts, capCounts, planned}
+use Rattle.column.specs.Column.{Lists, partsOf, delta, sideAt, columnNames, topStand, bottomStand, planned}
+use Rattle.column.specs.Counts.{sideCounts, capCounts}
 use Rattle.column.specs.declared.names.Piece.{Piece}
 use Rattle.column.specs.declared.wall.Wall.{Wall}
 use Rattle.column.specs.Names.{nameAt, sideFaces, pieceOf, startBy}

@@ -9,11 +9,9 @@ use lib.Dec.{eqb}
 use lib.Ieee.{Float, binary32, ofInt}
 use Rattle.face.specs.declared.vec.Vec3.{Vec3}
 use Rattle.face.specs.declared.face.Quad.{Quad}
-use Rattle.face.specs.declared.triangle.Counts.{Counts}
 use Rattle.face.specs.Lists.{each, chain}
 use Rattle.face.specs.Vec.{v3, f0, plus, times, over, plus3, zero3}
 use Rattle.face.specs.Face.{quadOf, alteredQuad}
-use Rattle.face.specs.Triangles.{counts, insetCounts}
 use Rattle.answer.specs.declared.answer.Refusal.the-variants.{Shape, Range}
 use Rattle.answer.specs.declared.answer.Answer.{Answer}
 use Rattle.answer.specs.Answers.{given}
@@ -24,7 +22,7 @@ use Rattle.placement.specs.declared.placement.Choice3.the-variants as choice
 use Rattle.placement.specs.declared.placement.Stand.{Stand}
 use Rattle.placement.specs.Options.{entryCount, isTable, optionAt, choiceNames, optionFor}
 use Rattle.placement.specs.Placing.{standBy, settled, placementInRange}
-use Rattle.buffers.specs.Mesh.{Mesh, none, also, summed}
+use Rattle.buffers.specs.Mesh.{Mesh, none}
 use Rattle.buffers.specs.Lent.{Lent}
 use Rattle.buffers.specs.Faces.{wallMesh}
 use Rattle.mesh.specs.Stored.{uvFrom}
@@ -131,25 +129,6 @@ sidesFaces job ls = map (meshOf job ls) (chain (sideNames job) 6)
 
 abbrev pub columnFaces : Column → Lists → List Mesh
 columnFaces job ls = map (meshOf job ls) (columnNames job)
-
--- ---- counts without a walk over the parts
-abbrev pub many : ℕ → Counts → Counts
-many n c = counts (n * c .vertices .0) (n * c .indices .0)
-
-abbrev pub sideCounts : List Float → List ℕ → ℕ → Choice → Counts
-sideCounts ns ms s option.Absent = none
-sideCounts ns ms s (option.With k) = many s (insetCounts (optionAt ns ms k .inset) 4 2)
-
-abbrev pub capCounts : List Float → List ℕ → Choice → Counts
-capCounts ns ms option.Absent = none
-capCounts ns ms (option.With k) = insetCounts (optionAt ns ms k .inset) 6 4
-
-abbrev pub sidesCounts : List Float → List ℕ → ℕ → List Side → ℕ → Counts
-sidesCounts ns ms s ss = summed (λ d. sideCounts ns ms s (sideAt ss d))
-
-abbrev pub columnCounts : Column → List Float → List ℕ → Counts
-columnCounts job ns ms =
-    also (sidesCounts ns ms (partsOf (job .subdivisions)) (job .sides) 6) (also (capCounts ns ms (job .top)) (capCounts ns ms (job .bottom)))
 
 -- ---- R1: lengths, the table, and every option number, used or not
 abbrev pub allNamed : Column → ℕ → Bool

@@ -1,3 +1,4 @@
 pub mod Column
+pub mod Counts
 pub mod Names
 pub mod Wall

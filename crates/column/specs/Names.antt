@@ -16,7 +16,8 @@ use Rattle.column.specs.declared.Name.{Name}
 use Rattle.column.specs.declared.Name.the-variants.{OfSide, Top, Bottom}
 use Rattle.column.specs.declared.names.Piece.{Piece}
 use Rattle.column.specs.declared.names.Piece.the-variants.{Part, Cap}
-use Rattle.column.specs.Column.{partsOf, sideAt, columnNames, topStand, bottomStand, many, capCounts, sidesCounts}
+use Rattle.column.specs.Column.{partsOf, sideAt, columnNames, topStand, bottomStand}
+use Rattle.column.specs.Counts.{many, capCounts, sidesCounts}
 
 -- B2: the name of a number; past the last it is the bottom's
 abbrev pub nameAt : Column → ℕ → Name

@@ -14,7 +14,8 @@ use Rattle.buffers.proofs.Windows.{none-also}
 use Rattle.buffers.proofs.Each.{SoFar, so-far-more}
 use Rattle.column.specs.declared.Column.{Column}
 use Rattle.column.specs.declared.Name.the-variants.{Top, Bottom}
-use Rattle.column.specs.Column.{Lists, lists, partsOf, sideNames, capNames, columnNames, topStand, bottomStand, meshOf, capFaces, sidesFaces, columnFaces, sidesCounts, capCounts}
+use Rattle.column.specs.Column.{Lists, lists, partsOf, sideNames, capNames, columnNames, topStand, bottomStand, meshOf, capFaces, sidesFaces, columnFaces}
+use Rattle.column.specs.Counts.{sidesCounts, capCounts}
 use Rattle.column.proofs.Counts.{sides-sum, cap-sum, top-size}
 use Rattle.column.proofs.Parts.{parts-are, top-are, bottom-are}
 

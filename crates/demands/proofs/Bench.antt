@@ -15,7 +15,8 @@ use Rattle.face.proofs.Bench as face
 use Rattle.answer.specs.declared.answer.Answer.{Answer}
 use Rattle.answer.specs.Answers.{limited, numberOf, countsOf}
 use Rattle.column.specs.declared.Column.{Column}
-use Rattle.column.specs.Column.{columnCounts, checked}
+use Rattle.column.specs.Column.{checked}
+use Rattle.column.specs.Counts.{columnCounts}
 use Rattle.column.proofs.Counts.{column-counts}
 use Rattle.demands.specs.Job.{OfColumn, planned}
 use Rattle.demands.specs.Bench.{zeroLists, Case, Plan, Summed, Quads, Hexagons, Connected, Rooted, Fused, Holds, All, bits, plans, insets, numbers, benchCases}

@@ -5,7 +5,8 @@ use native.Mathlib.Numerals.{add-one}
 use native.Mathlib.Omega.{arith}
 use mathlib.Core.Path.{_≡_, ap, _∙_}
 use denote.Ref.{now}
-use Rattle.column.specs.Column.{sideAt, sidesCounts}
+use Rattle.column.specs.Column.{sideAt}
+use Rattle.column.specs.Counts.{sidesCounts}
 use Rattle.column.proofs.Counts.{side-most, sides-most}
 use Rattle.column.proofs.sides_counts.Statement.{statement}
 use Rattle.column.proofs.sides_counts.Tie as tie

@@ -13,7 +13,8 @@ use Rattle.buffers.specs.Laying.{Buffers, four, layEach}
 use Rattle.buffers.proofs.Windows.{none-also}
 use Rattle.buffers.proofs.Each.{SoFar, so-far-none, so-far-more, each-lengths}
 use Rattle.column.specs.declared.wall.Wall.{Wall}
-use Rattle.column.specs.Column.{lists, partsOf, sideNames, meshOf, sidesCounts}
+use Rattle.column.specs.Column.{lists, partsOf, sideNames, meshOf}
+use Rattle.column.specs.Counts.{sidesCounts}
 use Rattle.column.specs.Names.{sideFaces}
 use Rattle.column.specs.Wall.{partMesh}
 use Rattle.column.proofs.Counts.{sides-sum, sides-most}
