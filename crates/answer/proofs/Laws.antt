@@ -1,5 +1,6 @@
 -- What callers cite of tests over lists, of lengths and of answers. Assumes nothing.
 use mathlib.Core.Path.{_≡_, refl, sym, ap, _∙_}
+use mathlib.Core.Logic.{⊎-elim}
 use mathlib.Core.Bool.{Bool, true, false, _&&_}
 use mathlib.Core.List.{List, [], _∷_}
 use Prim.Native.Nat.{ℕ, zero, suc, _+_, _*_, _/_, _%_, _≤_, _<_}
@@ -13,11 +14,12 @@ use lib.Seq.{drop-cons}
 use Rattle.face.specs.declared.triangle.Counts.{Counts}
 use Rattle.answer.specs.declared.answer.Refusal.{Refusal}
 use Rattle.answer.specs.declared.answer.Refusal.the-variants.{Limit, Room, NoFace}
+use Rattle.answer.specs.declared.answer.Buffer.{Buffer}
 use Rattle.answer.specs.declared.answer.Buffer.the-variants.{Vertices, Normals, Uvs, Indices}
 use Rattle.answer.specs.declared.answer.Answer.{Answer}
 use Rattle.answer.specs.declared.answer.Answer.the-variants.{Done, Refused}
 use Rattle.answer.specs.Checks.{every}
-use Rattle.answer.specs.Answers.{after, given, limited, named, roomFor, roomed}
+use Rattle.answer.specs.Answers.{Roomy, Short, numberOf, after, given, limited, named, roomFor, roomed}
 
 -- ---- a test of each element, read one by one: the first i passed, so the rest decide
 module _ {A : Type 0} (ok : A → Bool) (xs : List A) (z : A) where
@@ -99,12 +101,9 @@ named-done (Done d) c k n p =
     let h = given-done (ltb k n) NoFace (Done d) p in
     (h .1, ltb-true k n (h .0))
 
--- four buffers of these lengths hold the counts
-pub record Roomy (c : Counts) (v n t i : ℕ) : Type 0 where
-  pub vertices : 3 * c .vertices .0 ≤ v
-  pub normals : 3 * c .vertices .0 ≤ n
-  pub uvs : 2 * c .vertices .0 ≤ t
-  pub indices : c .indices .0 ≤ i
+five : (ok : Bool) (b : Buffer) (rest : Answer) → (ok ≡ true → numberOf rest ≡ 5) → numberOf (given ok (Room b) rest) ≡ 5
+five true b rest h = h refl
+five false b rest h = refl
 
 module _ (c : Counts) (v n t i : ℕ) where
   pub room-for-done : (d : Counts) → roomFor c v n t i ≡ Done d → (c ≡ d) × Roomy c v n t i
@@ -123,6 +122,17 @@ module _ (c : Counts) (v n t i : ℕ) where
       (rw (le-leb (3 * c .vertices .0) n (r .normals))
       (rw (le-leb (2 * c .vertices .0) t (r .uvs))
       (rw (le-leb (c .indices .0) i (r .indices)))))
+
+  -- whichever of the four is short, the answer is 5
+  pub room-short : Short c v n t i → numberOf (roomFor c v n t i) ≡ 5
+  room-short s =
+      five (leb (3 * c .vertices .0) v) Vertices _ (λ p. five (leb (3 * c .vertices .0) n) Normals _ (λ q.
+      five (leb (2 * c .vertices .0) t) Uvs _ (λ r. five (leb (c .indices .0) i) Indices (Done c) (λ o.
+      ⊎-elim (λ h. absurd (omega (arith, h, leb-true (3 * c .vertices .0) v p)))
+      (⊎-elim (λ h. absurd (omega (arith, h, leb-true (3 * c .vertices .0) n q)))
+      (⊎-elim (λ h. absurd (omega (arith, h, leb-true (2 * c .vertices .0) t r)))
+      (λ h. absurd (omega (arith, h, leb-true (c .indices .0) i o)))))
+      s))))
 
 pub roomed-done : (a : Answer) (c : Counts) (v n t i : ℕ) → roomed a v n t i ≡ Done c → (a ≡ Done c) × Roomy c v n t i
 roomed-done (Refused e) c v n t i p = not-done p

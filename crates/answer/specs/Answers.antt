@@ -1,5 +1,6 @@
 -- Answers and the order of refusals; N4 to R18 are rows of docs/TRACE.md. Definitions only.
-use Prim.Native.Nat.{ℕ, _*_}
+use Prim.Native.Nat.{ℕ, _*_, _<_, _≤_}
+use mathlib.Core.Logic.{_⊎_}
 use mathlib.Core.Bool.{Bool, cond}
 use lib.Dec.{leb, ltb}
 use Rattle.face.specs.declared.triangle.Counts.{Counts}
@@ -74,3 +75,14 @@ roomFor c v n t i =
 abbrev pub roomed : Answer → ℕ → ℕ → ℕ → ℕ → Answer
 roomed (Refused e) v n t i = Refused e
 roomed (Done c) v n t i = roomFor c v n t i
+
+-- R5: four buffers of these lengths hold the counts
+pub record Roomy (c : Counts) (v n t i : ℕ) : Type 0 where
+  pub vertices : 3 * c .vertices .0 ≤ v
+  pub normals : 3 * c .vertices .0 ≤ n
+  pub uvs : 2 * c .vertices .0 ≤ t
+  pub indices : c .indices .0 ≤ i
+
+-- R5: one of the four does not
+abbrev pub Short : Counts → ℕ → ℕ → ℕ → ℕ → Type 0
+Short c v n t i = (v < 3 * c .vertices .0) ⊎ ((n < 3 * c .vertices .0) ⊎ ((t < 2 * c .vertices .0) ⊎ (i < c .indices .0)))

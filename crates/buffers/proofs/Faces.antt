@@ -169,3 +169,6 @@ quad-few how q = subst (λ (c : Counts). c .indices .0 ≤ 4 * c .vertices .0) (
 
 pub hexagon-few : (how : Inset) (h : InsetHexagon) → FewIndices (hexagonMesh how h)
 hexagon-few how h = subst (λ (c : Counts). c .indices .0 ≤ 4 * c .vertices .0) (sym (hexagon-size how h)) (few how 6 4 (omega arith) (omega arith))
+
+pub standing-few : (t : Stand) (m : Mesh) → FewIndices m → FewIndices (standing t m)
+standing-few t m h = subst (λ (c : Counts). c .indices .0 ≤ 4 * c .vertices .0) (sym (standing-size t m)) h

@@ -18,8 +18,8 @@ use Rattle.buffers.specs.Mesh.{Vertex, Mesh, none, also, sizeOf, measure
 use Rattle.buffers.specs.Laying.{Buffers, four, three, two, corners, spread, laid, lay, layAll}
 use Rattle.placement.specs.declared.placement.Stand.{Stand}
 use Rattle.buffers.specs.Faces.{vertexAt, faceOf, quadMesh, hexagonMesh, stoodVertex, standing}
-use Rattle.buffers.specs.Windows.{faceAt, Between, Within, AlikeOutside, Holds, Corners, Own, AllOwn, OfFace}
-use Rattle.buffers.proofs.Laid.{laid-append, laid-nothing, spread-append}
+use Rattle.buffers.specs.Windows.{faceAt, Between, Within, AlikeOutside, Holds, Corners, Own, AllOwn, OfFace, InFace}
+use Rattle.buffers.proofs.Laid.{laid-append, laid-nothing, spread-append, spread-at}
 use Rattle.buffers.proofs.Order.{same-four, position-numbers, normal-numbers, uv-numbers, index-numbers}
 use Rattle.buffers.proofs.Windows.{total, covered, next-start, also-assoc, also-none, none-also, lay-outside, lay-inside}
 
@@ -164,6 +164,33 @@ own-vertices fs own j h =
       mine = (omega (arith, a, r .lies .0), omega (arith, b, r .lies .1));
       own = subst (λ (x : Triangle). Corners (startOf fs k .vertices .0) (startOf fs (suc k) .vertices .0) x)
           (sym (ap (λ (x : ℕ). getD (trianglesFrom 0 fs) x noTriangle) (sym e) ∙ triangle-at 0 fs k i (r .there) l)) w;
+    }
+
+-- and so does every place of buffers that hold that mesh
+corner-own : (a b : ℕ) (t : Triangle) → Corners a b t → (j d : ℕ) → j < 3 → Between a b (getD (corners 0 t) j d)
+corner-own a b t o zero d h = (omega (arith, o .0 .0), omega (arith, o .0 .1))
+corner-own a b t o (suc zero) d h = (omega (arith, o .1 .0), omega (arith, o .1 .1))
+corner-own a b t o (suc (suc zero)) d h = (omega (arith, o .2 .0), omega (arith, o .2 .1))
+corner-own a b t o (suc (suc (suc j))) d h = absurd (omega (arith, h))
+
+pub held-own : (fs : List Mesh) → AllOwn fs → (C : Buffers) → Holds (joined fs) none C → measure fs .indices .0 ≤ length (C .indices) → (i : ℕ) → 3 * i < measure fs .indices .0 → InFace fs (C .indices) i
+held-own fs own C h room i u =
+    let ts : List Triangle = joined fs .triangles in
+    let e : 3 * length ts ≡ measure fs .indices .0 = ap (λ (c : Counts). c .indices .0) (joined-size fs) in
+    let o = own-vertices fs own i (omega (arith, e)) in
+    let k : ℕ = o .face in
+    let a : 3 * trianglesBefore fs k ≡ startOf fs k .indices .0 = triangles-sum (take k fs) in
+    let b : 3 * trianglesBefore fs (suc k) ≡ startOf fs (suc k) .indices .0 = triangles-sum (take (suc k) fs) in
+    record {
+      face = k;
+      there = o .there;
+      mine = λ j v. (omega (arith, o .mine .0), omega (arith, b, o .mine .1));
+      own = λ j d v.
+          subst (Between (startOf fs k .vertices .0) (startOf fs (suc k) .vertices .0))
+          (sym (ap (λ (x : ℕ). getD (C .indices) x d) (sym (zero-add (3 * i + j)))
+          ∙ h .indices (3 * i + j) d (omega (arith, e)) (omega (arith, e))
+          ∙ spread-at (corners 0) 3 (λ t. refl) ts noTriangle i j d (omega (arith, e)) v))
+          (corner-own _ _ (getD ts i noTriangle) (o .own) j d v);
     }
 
 -- ---- the faces of `face` are such

@@ -7,7 +7,7 @@ use native.Mathlib.Nat.{add-suc, suc-add, add-zero}
 use native.Mathlib.Numerals.{add-one, towards-suc}
 use native.Mathlib.Omega.{arith}
 use lib.ListN.{length, set, getD, length-append, length-set, List·getD-append}
-use lib.Seq.{set-comm, set-set, getD-set-other, getD-set-same}
+use lib.Seq.{getD-append-add, set-comm, set-set, getD-set-other, getD-set-same}
 use Rattle.face.specs.Lists.{each, chain}
 use Rattle.face.proofs.Filling.{length-each, each-map, each-all}
 use Rattle.buffers.specs.Laying.{spread, laid}
@@ -97,6 +97,17 @@ module _ {A B : Type 0} (f : A → List B) where
       let r : length (spread f xs) ≡ n * length xs = spread-length n h xs in
       let s : length (f x ++ spread f xs) ≡ length (f x) + length (spread f xs) = length-append (f x) (spread f xs) in
       s ∙ rw (h x, r) (sym (omega arith))
+
+  -- and which they are
+  pub spread-at : (n : ℕ) → ((x : A) → length (f x) ≡ n) → (xs : List A) (z : A) (i j : ℕ) (d : B) → i < length xs → j < n → getD (spread f xs) (n * i + j) d ≡ getD (f (getD xs i z)) j d
+  spread-at n h [] z i j d u v = absurd (let g : i < 0 = u in omega arith)
+  spread-at n h (x ∷ xs) z zero j d u v =
+      ap (λ (k : ℕ). getD (f x ++ spread f xs) k d) (let e : n * 0 + j ≡ j = omega arith in e)
+      ∙ List·getD-append (f x) (spread f xs) d j (omega (arith, h x))
+  spread-at n h (x ∷ xs) z (suc i) j d u v =
+      ap (λ (k : ℕ). getD (f x ++ spread f xs) k d) (let e : n * suc i + j ≡ length (f x) + (n * i + j) = rw (h x) (omega arith) in e)
+      ∙ getD-append-add (f x) (spread f xs) (n * i + j) d
+      ∙ spread-at n h xs z i j d (let g : suc i < suc (length xs) = u in omega arith) v
 
   pub spread-each : (g : ℕ → A) (m : ℕ) → spread f (each g m) ≡ chain (λ k. f (g k)) m
   spread-each g zero = refl

@@ -14,7 +14,7 @@ use Rattle.face.specs.Lists.{each, chain}
 use Rattle.face.proofs.Filling.{length-each, each-at}
 use Rattle.buffers.specs.Mesh.{Mesh, none, also, sizeOf, measure, startOf, summed}
 use Rattle.buffers.specs.Laying.{Buffers, fits, layOne, laidIfFits}
-use Rattle.buffers.specs.Windows.{Own, AllOwn}
+use Rattle.buffers.specs.Windows.{faceAt}
 use Rattle.buffers.proofs.Joined.{measure-append}
 use Rattle.buffers.proofs.Windows.{also-assoc, also-none, none-also}
 use Rattle.buffers.proofs.Faces.{map-each}
@@ -156,7 +156,8 @@ module _ {N : Type 0} (f : N → Mesh) where
       ∙ one-laid (map f (s .before)) (f n) (map f (s .rest)) B (subst (λ (l : List Mesh). fits none (measure l) B ≡ true) all e)
       ∙ ap₂ (λ (l : List Mesh) (i : ℕ). layOne l i none B) (sym all) (length-map (s .before) f ∙ s .number)
 
-  pub names-own : ((n : N) → Own (f n)) → (ns : List N) → AllOwn (map f ns)
-  names-own h [] k u = absurd (let g : k < 0 = u in omega arith)
-  names-own h (n ∷ ns) zero u = h n
-  names-own h (n ∷ ns) (suc k) u = names-own h ns k (let g : suc k < suc (length (map f ns)) = u in omega arith)
+  -- what holds of each name's mesh holds of each face
+  pub names-all : (P : Mesh → Type 0) → ((n : N) → P (f n)) → (ns : List N) (k : ℕ) → k < length (map f ns) → P (faceAt (map f ns) k)
+  names-all P h [] k u = absurd (let g : k < 0 = u in omega arith)
+  names-all P h (n ∷ ns) zero u = h n
+  names-all P h (n ∷ ns) (suc k) u = names-all P h ns k (let g : suc k < suc (length (map f ns)) = u in omega arith)

@@ -70,3 +70,10 @@ pub record OfFace (fs : List Mesh) (i : ℕ) : Type 0 where
   pub there : face < length fs
   pub mine : Between (startOf fs face .indices .0) (startOf fs (suc face) .indices .0) (3 * i)
   pub own : Corners (startOf fs face .vertices .0) (startOf fs (suc face) .vertices .0) (getD (joined fs .triangles) i noTriangle)
+
+-- X8: three places of an index buffer, the i-th triangle's, with the face whose window has them: what they hold are vertices of it
+pub record InFace (fs : List Mesh) (l : List ℕ) (i : ℕ) : Type 0 where
+  pub face : ℕ
+  pub there : face < length fs
+  pub mine : (j : ℕ) → j < 3 → Between (startOf fs face .indices .0) (startOf fs (suc face) .indices .0) (3 * i + j)
+  pub own : (j d : ℕ) → j < 3 → Between (startOf fs face .vertices .0) (startOf fs (suc face) .vertices .0) (getD l (3 * i + j) d)

@@ -19,9 +19,9 @@ use Rattle.face.specs.Triangles.{noTriangle, counts}
 use Rattle.answer.specs.declared.answer.Refusal.the-variants.{Shape, Range}
 use Rattle.answer.specs.declared.answer.Answer.{Answer}
 use Rattle.answer.specs.declared.answer.Answer.the-variants.{Done, Refused}
-use Rattle.answer.specs.Answers.{given, limited, named, after}
+use Rattle.answer.specs.Answers.{Roomy, given, limited, named, after}
 use Rattle.answer.specs.Checks.{exactly}
-use Rattle.answer.proofs.Laws.{Roomy, every-at, given-done, done-limited, named-done, roomed-done}
+use Rattle.answer.proofs.Laws.{every-at, given-done, done-limited, named-done, roomed-done}
 use Rattle.buffers.specs.Mesh.{Vertex, none, measure}
 use Rattle.buffers.specs.Laying.{Buffers, four, three, two, corners, spread, laid, lay, layAll, layOne}
 use Rattle.buffers.proofs.Laid.{laid-append, spread-append, spread-length, spread-all, Laying, laying-done}

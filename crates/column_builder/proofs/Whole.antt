@@ -1,7 +1,9 @@
--- What a done answer says of the room, and whose vertices a face names. Assumes nothing.
+-- What a done answer says of the room, whose vertices a face names, and how many indices it has. Assumes nothing.
 use mathlib.Core.Path.{_≡_}
 use mathlib.Core.List.{List}
 use mathlib.Core.Bool.{true}
+use Prim.Native.Nat.{ℕ, _<_}
+use lib.ListN.{length}
 use lib.Ieee.{Float}
 use Rattle.face.specs.declared.face.Quad.{Quad}
 use Rattle.face.specs.declared.inset.Inset.{Inset}
@@ -20,9 +22,10 @@ use Rattle.mesh.proofs.Jobs.{whole-room}
 use Rattle.buffers.specs.Mesh.{none, measure}
 use Rattle.buffers.specs.Laying.{Buffers, fits}
 use Rattle.buffers.specs.Faces.{quadMesh, hexagonMesh, wallMesh}
-use Rattle.buffers.specs.Windows.{Own, AllOwn}
+use Rattle.buffers.specs.Windows.{faceAt, Own, AllOwn}
 use Rattle.buffers.proofs.Joined.{quad-own, hexagon-own, standing-own}
-use Rattle.buffers.proofs.Named.{names-own}
+use Rattle.buffers.proofs.Faces.{FewIndices, standing-few, quad-few, hexagon-few}
+use Rattle.buffers.proofs.Named.{names-all}
 use Rattle.plane_builder.specs.Cap.{capHexagon, capMesh}
 use Rattle.column.specs.declared.Column.{Column}
 use Rattle.column.specs.declared.Name.{Name}
@@ -45,6 +48,12 @@ wall-own t how q = standing-own t (quadMesh how (insetQuadOf how q)) (quad-own h
 cap-own : (t : Stand) (l : List Float) (o : FaceOptions) → Own (capMesh t l o)
 cap-own t l o = standing-own t (hexagonMesh (o .inset) (capHexagon l o)) (hexagon-own (o .inset) (capHexagon l o))
 
+wall-few : (t : Stand) (how : Inset) (q : Quad) → FewIndices (wallMesh t how q)
+wall-few t how q = standing-few t (quadMesh how (insetQuadOf how q)) (quad-few how (insetQuadOf how q))
+
+cap-few : (t : Stand) (l : List Float) (o : FaceOptions) → FewIndices (capMesh t l o)
+cap-few t l o = standing-few t (hexagonMesh (o .inset) (capHexagon l o)) (hexagon-few (o .inset) (capHexagon l o))
+
 module _ (job : Column) (ls : Lists) where
   name-own : (n : Name) → Own (meshOf job ls n)
   unfolding meshOf
@@ -53,4 +62,14 @@ module _ (job : Column) (ls : Lists) where
   name-own Bottom = cap-own (bottomStand job) (ls .corners) (optionFor (ls .numbers) (ls .marks) (job .bottom))
 
   pub column-own : AllOwn (columnFaces job ls)
-  column-own = names-own (meshOf job ls) name-own (columnNames job)
+  column-own = names-all (meshOf job ls) Own name-own (columnNames job)
+
+  -- ---- N4: at most four indices a vertex
+  name-few : (n : Name) → FewIndices (meshOf job ls n)
+  unfolding meshOf
+  name-few (OfSide d p) = let o = optionFor (ls .numbers) (ls .marks) (sideAt (job .sides) d) in wall-few (wallStand job) (o .inset) (alteredQuad (o .uv) (partQuad job (ls .pairs) d p))
+  name-few Top = cap-few (topStand job) (ls .corners) (optionFor (ls .numbers) (ls .marks) (job .top))
+  name-few Bottom = cap-few (bottomStand job) (ls .corners) (optionFor (ls .numbers) (ls .marks) (job .bottom))
+
+  pub column-few : (k : ℕ) → k < length (columnFaces job ls) → FewIndices (faceAt (columnFaces job ls) k)
+  column-few = names-all (meshOf job ls) FewIndices name-few (columnNames job)

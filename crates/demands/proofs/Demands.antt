@@ -2,34 +2,39 @@
 -- Assumes nothing.
 use mathlib.Core.Path.{_≡_, refl, sym, ap, subst, _∙_}
 use mathlib.Core.Logic.{⊎-elim, inl, inr}
-use mathlib.Core.List.{List, [], _∷_}
-use Prim.Native.Nat.{ℕ, zero, suc, _+_, _*_, _<_, _≤_}
+use mathlib.Core.List.{List, [], _∷_, _++_}
+use Prim.Native.Nat.{ℕ, zero, suc, _+_, _*_, _<_, _≤_, min}
+use native.Mathlib.Nat.{min-le-left}
 use native.Mathlib.Omega.{arith}
-use lib.ListN.{length}
+use lib.ListN.{length, take, drop, length-take, take-append-drop}
 use Rattle.face.specs.declared.triangle.Counts.{Counts}
 use Rattle.answer.specs.declared.answer.Refusal.{Refusal}
 use Rattle.answer.specs.declared.answer.Refusal.the-variants.{NoFace}
 use Rattle.answer.specs.declared.answer.Answer.{Answer}
 use Rattle.answer.specs.declared.answer.Answer.the-variants.{Done, Refused}
-use Rattle.answer.specs.Answers.{limited, after}
+use Rattle.answer.specs.Answers.{Short, numberOf, limited, after}
 use Rattle.answer.proofs.Laws.{done-limited, named-done, roomed-done, after-done, after-refused}
-use Rattle.answer.proofs.Determined.{determined}
 use Rattle.buffers.specs.Mesh.{Mesh, none, also, measure, startOf, joined}
 use Rattle.buffers.specs.Laying.{Buffers, layAll, layOne}
 use Rattle.buffers.specs.Steps.{Step, Lays, Refuses, Named}
-use Rattle.buffers.specs.Windows.{AlikeOutside, SameLengths, Holds, Within, Own, AllOwn, OfFace, faceAt}
-use Rattle.buffers.proofs.Order.{lay-lengths, one-lengths, lengths-same, lengths-then}
+use Rattle.buffers.specs.Windows.{AlikeOutside, SameLengths, Holds, Within, Own, AllOwn, InFace, faceAt}
+use Rattle.buffers.proofs.Order.{same-four, lay-lengths, one-lengths, lengths-same, lengths-then}
 use Rattle.buffers.proofs.Windows.{none-also, one-inside, windows-apart, floats-covered, indices-covered}
-use Rattle.buffers.proofs.Joined.{own-vertices, all-is-joined, all-inside, all-outside}
-use Rattle.mesh.specs.Jobs.{plannedOf, wholeOf, oneOf, builtOf, facedOf, calls}
-use Rattle.mesh.proofs.Jobs.{RoomIn, plan-and-build, refused-plan, any-calls, only-its-places, no-places, face-answer, no-face-answer}
+use Rattle.buffers.proofs.Faces.{FewIndices}
+use Rattle.buffers.proofs.Joined.{few-indices, held-own, all-is-joined, all-inside, all-outside}
+use Rattle.mesh.specs.Jobs.{RoomIn, ShortIn, plannedOf, wholeOf, oneOf, builtOf, facedOf, calls}
+use Rattle.mesh.specs.Stored as stored
+use Rattle.mesh.proofs.Jobs as jobs
+use Rattle.mesh.proofs.Jobs.{plan-and-build, refused-plan, any-calls, only-its-places, no-places, face-answer, no-face-answer}
+use Rattle.merge.specs.Merge.{mergeAnswer, appended}
 use Rattle.cheap_column.specs.CheapColumn as cheap
 use Rattle.cheap_column.proofs.Cheap as cheapLaws
 use Rattle.plane_builder.specs.Plane as plane
 use Rattle.plane_builder.proofs.Laws as planeLaws
 use Rattle.column.specs.Column as column
 use Rattle.column_builder.proofs.Whole as columnLaws
-use Rattle.demands.specs.Job.{Job, OfCheapColumn, OfPlane, OfColumn, faces, planned, wholeAnswer, faceAnswer, built, faced, Call, Face, BuildOf, FaceOf, Other, called, AllRefused, Among}
+use Rattle.demands.specs.Job.{Job, OfCheapColumn, OfPlane, OfColumn, faces, planned, wholeAnswer, faceAnswer, built, faced}
+use Rattle.demands.specs.Calls.{Call, Build, Face, Merge, Scale, Offset, TextureScale, Centroid, UvCentroid, answerOf, leaves, Lengths, first, before, leavesFirst, InRun, OwnFace, Other, run, OthersRefused, Among}
 
 -- ---- each kind is its own tests and its faces: what its functions promise is what `Jobs` says of those
 abbrev checked : Job → Answer → Answer
@@ -68,17 +73,6 @@ passes (OfCheapColumn job l) = cheapLaws.passes job l
 passes (OfPlane job ls) = planeLaws.passes job ls
 passes (OfColumn job ls) = columnLaws.passes job ls
 
--- ---- D2: every answer and every place is determined
-module _ (job : Job) where
-  pub plan-determined : (x y : Answer) → x ≡ planned job → y ≡ planned job → x ≡ y
-  plan-determined x y p q = determined p q
-
-  pub build-determined : (B : Buffers) (x y : Answer) (C D : Buffers) → x ≡ wholeAnswer job B → y ≡ wholeAnswer job B → C ≡ built job B → D ≡ built job B → (x ≡ y) × (C ≡ D)
-  build-determined B x y C D p q r s = (determined p q, determined r s)
-
-  pub face-determined : (k : ℕ) (B : Buffers) (x y : Answer) (C D : Buffers) → x ≡ faceAnswer job k B → y ≡ faceAnswer job k B → C ≡ faced job k B → D ≡ faced job k B → (x ≡ y) × (C ≡ D)
-  face-determined k B x y C D p q r s = (determined p q, determined r s)
-
 -- ---- R10: a refused call leaves every buffer as it was
 module _ (job : Job) (B : Buffers) (e : Refusal) where
   pub refused-build : wholeAnswer job B ≡ Refused e → built job B ≡ B
@@ -87,9 +81,25 @@ module _ (job : Job) (B : Buffers) (e : Refusal) where
   pub refused-face : (k : ℕ) → faceAnswer job k B ≡ Refused e → faced job k B ≡ B
   refused-face k h = faced-is job k B ∙ sym (after-refused (oneOf (checked job) (faces job) k B) B (layOne (faces job) k none B) (sym (face-is job k B) ∙ h))
 
--- ---- R16, N4: the counts of a done plan are the sums over its faces, at most 65,536 vertices
+-- ---- R16, N4: the counts of a done plan are the sums over its faces, at most 65,536 vertices and 262,144 indices
 pub counts-are-sums : (job : Job) (c : Counts) → planned job ≡ Done c → (measure (faces job) .vertices .0 ≤ 65536) × (measure (faces job) ≡ c)
 counts-are-sums job c e = done-limited (measure (faces job)) c (passes job (limited (measure (faces job))) c (sym (planned-is job) ∙ e))
+
+alone : (P : Mesh → Type 0) (m : Mesh) → P m → (k : ℕ) → k < 1 → P (faceAt (m ∷ []) k)
+alone P m o zero h = o
+alone P m o (suc k) h = absurd (omega (arith, h))
+
+all-few : (job : Job) (k : ℕ) → k < length (faces job) → FewIndices (faceAt (faces job) k)
+all-few (OfCheapColumn job l) = alone FewIndices _ (cheapLaws.column-few job l)
+all-few (OfPlane job ls) = alone FewIndices _ (planeLaws.plane-few job ls)
+all-few (OfColumn job ls) = columnLaws.column-few job ls
+
+pub at-most : (job : Job) (c : Counts) → planned job ≡ Done c → (c .vertices .0 ≤ 65536) × (c .indices .0 ≤ 262144)
+at-most job c e =
+    let s = counts-are-sums job c e in
+    let v : c .vertices .0 ≤ 65536 = rw (s .1) at (s .0) in
+    let f : c .indices .0 ≤ 4 * c .vertices .0 = rw (s .1) at (few-indices (faces job) (all-few job)) in
+    (v, omega (arith, v, f))
 
 -- ---- R5, R17: a call that is done has the plan's counts and the whole plan's room, a face call for a planned face
 pub done-build : (job : Job) (B : Buffers) (c : Counts) → wholeAnswer job B ≡ Done c → (planned job ≡ Done c) × RoomIn c B
@@ -107,6 +117,13 @@ face-is-done job c p k B r h = face-is job k B ∙ face-answer (checked job) (fa
 
 pub no-face-refused : (job : Job) (c : Counts) → planned job ≡ Done c → (k : ℕ) (B : Buffers) → length (faces job) ≤ k → faceAnswer job k B ≡ Refused NoFace
 no-face-refused job c p k B h = face-is job k B ∙ no-face-answer (checked job) (faces job) c (sym (planned-is job) ∙ p) k B h
+
+-- ---- R5: an accepted plan and a short buffer, whichever of the four it is, give 5, of the build and of each planned face
+pub short-build : (job : Job) (c : Counts) → planned job ≡ Done c → (B : Buffers) → ShortIn c B → numberOf (wholeAnswer job B) ≡ 5
+short-build job c p B s = ap numberOf (whole-is job B) ∙ jobs.short-build (checked job) (faces job) c (sym (planned-is job) ∙ p) B s
+
+pub short-face : (job : Job) (c : Counts) → planned job ≡ Done c → (k : ℕ) (B : Buffers) → ShortIn c B → k < length (faces job) → numberOf (faceAnswer job k B) ≡ 5
+short-face job c p k B s h = ap numberOf (face-is job k B) ∙ jobs.short-face (checked job) (faces job) c (sym (planned-is job) ∙ p) k B s h
 
 -- ---- X4: plan and whole build give the same refusal, or the same counts, whenever the planned room is there
 pub plan-and-build-agree : (job : Job) (B : Buffers) → ((c : Counts) → planned job ≡ Done c → RoomIn c B) → wholeAnswer job B ≡ planned job
@@ -166,56 +183,100 @@ nothing-past job B c e =
     (after-done (wholeOf (checked job) (faces job) B) B (layAll (faces job) none B) (sym (whole-is job B) ∙ e) ∙ sym (built-is job B))
     (subst (λ (d : Counts). AlikeOutside none d B (layAll (faces job) none B)) n (all-outside (faces job) none B))
 
+-- ---- R10: what holds of every call that is lent four buffers: its answer goes by their lengths, and refused it leaves them
+same-answer : (c : Call) (B C : Buffers) → SameLengths B C → answerOf c C ≡ answerOf c B
+same-answer (Build job) B C s = whole-is job C ∙ rw (s .vertices, s .normals, s .uvs, s .indices) (sym (whole-is job B))
+same-answer (Face job k) B C s = face-is job k C ∙ rw (s .vertices, s .normals, s .uvs, s .indices) (sym (face-is job k B))
+same-answer (Merge m S t) B C s = rw (s .vertices, s .normals, s .uvs, s .indices)
+same-answer (Scale c by) B C s = rw (s .vertices, s .normals, s .uvs, s .indices)
+same-answer (Offset c by) B C s = rw (s .vertices, s .normals, s .uvs, s .indices)
+same-answer (TextureScale c by) B C s = rw (s .vertices, s .normals, s .uvs, s .indices)
+same-answer (Centroid c) B C s = rw (s .vertices, s .normals, s .uvs, s .indices)
+same-answer (UvCentroid c) B C s = rw (s .vertices, s .normals, s .uvs, s .indices)
+
+pub refused-leaves : (c : Call) (B : Buffers) (e : Refusal) → answerOf c B ≡ Refused e → leaves c B ≡ B
+refused-leaves (Build job) B e h = refused-build job B e h
+refused-leaves (Face job k) B e h = refused-face job B e k h
+refused-leaves (Merge m S t) B e h = sym (after-refused (mergeAnswer m S t B) B (appended m S t B) h)
+refused-leaves (Scale c by) B e h = sym (after-refused (stored.scaleAnswer c by B) B _ h)
+refused-leaves (Offset c by) B e h = sym (after-refused (stored.offsetAnswer c by B) B _ h)
+refused-leaves (TextureScale c by) B e h = sym (after-refused (stored.textureScaleAnswer c by B) B _ h)
+refused-leaves (Centroid c) B e h = refl
+refused-leaves (UvCentroid c) B e h = refl
+
+-- the same of a call that is lent the first places of each
+same-take : {A : Type 0} (n : ℕ) (l m : List A) → length m ≡ length l → length (take n m) ≡ length (take n l)
+same-take n l m e = length-take n m ∙ ap (min n) e ∙ sym (length-take n l)
+
+same-first : (n : Lengths) (B C : Buffers) → SameLengths B C → SameLengths (first n B) (first n C)
+same-first n B C s =
+    record {
+      vertices = same-take (n .vertices) (B .vertices) (C .vertices) (s .vertices);
+      normals = same-take (n .normals) (B .normals) (C .normals) (s .normals);
+      uvs = same-take (n .uvs) (B .uvs) (C .uvs) (s .uvs);
+      indices = same-take (n .indices) (B .indices) (C .indices) (s .indices);
+    }
+
+pub refused-first : (n : Lengths) (c : Call) (B : Buffers) (e : Refusal) → answerOf c (first n B) ≡ Refused e → leavesFirst n c B ≡ B
+refused-first n c B e h =
+    ap (λ (C : Buffers). before n C B) (refused-leaves c (first n B) e h)
+    ∙ same-four (take-append-drop (n .vertices) (B .vertices)) (take-append-drop (n .normals) (B .normals)) (take-append-drop (n .uvs) (B .uvs)) (take-append-drop (n .indices) (B .indices))
+
+-- such are a job's own calls that are lent too little of a buffer, by one place or by more
+take-few : {A : Type 0} (n m : ℕ) (l : List A) → n < m → length (take n l) < m
+take-few n m l h = let e : length (take n l) ≤ n = rw (length-take n l) (min-le-left n (length l)) in omega (arith, e, h)
+
+first-short : (n : Lengths) (c : Counts) (B : Buffers) → Short c (n .vertices) (n .normals) (n .uvs) (n .indices) → ShortIn c (first n B)
+first-short n c B =
+    ⊎-elim (λ h. inl (take-few _ _ (B .vertices) h))
+    (⊎-elim (λ h. inr (inl (take-few _ _ (B .normals) h)))
+    (⊎-elim (λ h. inr (inr (inl (take-few _ _ (B .uvs) h))))
+    (λ h. inr (inr (inr (take-few _ _ (B .indices) h))))))
+
+pub own-short : (job : Job) (c : Counts) → planned job ≡ Done c → (n : Lengths) → Short c (n .vertices) (n .normals) (n .uvs) (n .indices) → (B : Buffers)
+    → (numberOf (answerOf (Build job) (first n B)) ≡ 5) × ((k : ℕ) → k < length (faces job) → numberOf (answerOf (Face job k) (first n B)) ≡ 5)
+own-short job c p n s B = (short-build job c p (first n B) (first-short n c B s), λ k h. short-face job c p k (first n B) (first-short n c B s) h)
+
 -- ---- X5: calls of a job that name each planned face at least once, in any order, with repeats, with numbers of
--- no face, and with refused calls of any job and of any kind between, leave what one whole build leaves
-same-whole : (job : Job) (B C : Buffers) → SameLengths B C → wholeAnswer job C ≡ wholeAnswer job B
-same-whole job B C s = whole-is job C ∙ rw (s .vertices, s .normals, s .uvs, s .indices) (sym (whole-is job B))
+-- no face, and with refused calls between, of any job, of merges and of stored meshes, lent the buffers or the first
+-- places of each, leave what one whole build leaves
+abbrev stepOf : InRun → Step
+stepOf (OwnFace k) = Lays k
+stepOf (Other n c) = Refuses
 
-same-face : (job : Job) (k : ℕ) (B C : Buffers) → SameLengths B C → faceAnswer job k C ≡ faceAnswer job k B
-same-face job k B C s = face-is job k C ∙ rw (s .vertices, s .normals, s .uvs, s .indices) (sym (face-is job k B))
-
-abbrev stepOf : Call → Step
-stepOf (Face k) = Lays k
-stepOf (BuildOf other) = Refuses
-stepOf (FaceOf other k) = Refuses
-stepOf Other = Refuses
-
-abbrev stepsOf : List Call → List Step
+abbrev stepsOf : List InRun → List Step
 stepsOf [] = []
-stepsOf (c ∷ cs) = stepOf c ∷ stepsOf cs
+stepsOf (s ∷ ss) = stepOf s ∷ stepsOf ss
 
-calls-are-steps : (job : Job) (B : Buffers) (cs : List Call) → AllRefused B cs → (C : Buffers) → SameLengths B C → called job cs C ≡ calls (checked job) (faces job) (stepsOf cs) C
-unfolding called calls
-calls-are-steps job B [] r C s = refl
-calls-are-steps job B (Face k ∷ cs) r C s =
-    ap (called job cs) (faced-is job k C)
-    ∙ calls-are-steps job B cs (r .1) (facedOf (checked job) (faces job) k C) (lengths-then s (subst (SameLengths C) (faced-is job k C) (face-lengths job k C)))
-calls-are-steps job B (BuildOf other ∷ cs) r C s =
-    ap (called job cs) (refused-build other C (r .0 .why) (same-whole other B C s ∙ r .0 .so)) ∙ calls-are-steps job B cs (r .1) C s
-calls-are-steps job B (FaceOf other k ∷ cs) r C s =
-    ap (called job cs) (refused-face other C (r .0 .why) k (same-face other k B C s ∙ r .0 .so)) ∙ calls-are-steps job B cs (r .1) C s
-calls-are-steps job B (Other ∷ cs) r C s = calls-are-steps job B cs (r .1) C s
+run-is-steps : (job : Job) (B : Buffers) (ss : List InRun) → OthersRefused B ss → (C : Buffers) → SameLengths B C → run job ss C ≡ calls (checked job) (faces job) (stepsOf ss) C
+unfolding run calls
+run-is-steps job B [] r C s = refl
+run-is-steps job B (OwnFace k ∷ ss) r C s =
+    ap (run job ss) (faced-is job k C)
+    ∙ run-is-steps job B ss (r .1) (facedOf (checked job) (faces job) k C) (lengths-then s (subst (SameLengths C) (faced-is job k C) (face-lengths job k C)))
+run-is-steps job B (Other n c ∷ ss) r C s =
+    ap (run job ss) (refused-first n c C (r .0 .why) (same-answer c (first n B) (first n C) (same-first n B C s) ∙ r .0 .so)) ∙ run-is-steps job B ss (r .1) C s
 
-named-so : (k : ℕ) (cs : List Call) → Among k cs → Named k (stepsOf cs)
+named-so : (k : ℕ) (ss : List InRun) → Among k ss → Named k (stepsOf ss)
 unfolding Named
-named-so k (c ∷ cs) h = ⊎-elim (λ e. inl (ap stepOf e)) (λ t. inr (named-so k cs t)) h
+named-so k (s ∷ ss) h = ⊎-elim (λ e. inl (ap stepOf e)) (λ t. inr (named-so k ss t)) h
 
-pub any-order-of-calls : (job : Job) (B : Buffers) (c : Counts) → wholeAnswer job B ≡ Done c → (cs : List Call) → AllRefused B cs → ((k : ℕ) → k < length (faces job) → Among k cs)
-    → called job cs B ≡ built job B
-any-order-of-calls job B c e cs r h =
-    calls-are-steps job B cs r B (lengths-same B)
-    ∙ any-calls (checked job) (faces job) B c (sym (whole-is job B) ∙ e) (stepsOf cs) (λ k l. named-so k cs (h k l))
+pub any-order-of-calls : (job : Job) (B : Buffers) (c : Counts) → wholeAnswer job B ≡ Done c → (ss : List InRun) → OthersRefused B ss → ((k : ℕ) → k < length (faces job) → Among k ss)
+    → run job ss B ≡ built job B
+any-order-of-calls job B c e ss r h =
+    run-is-steps job B ss r B (lengths-same B)
+    ∙ any-calls (checked job) (faces job) B c (sym (whole-is job B) ∙ e) (stepsOf ss) (λ k l. named-so k ss (h k l))
     ∙ sym (built-is job B)
 
--- ---- X8: each triangle of the built mesh names vertices of its own face alone
-alone : (m : Mesh) → Own m → AllOwn (m ∷ [])
-alone m o zero h = o
-alone m o (suc k) h = let g : suc k < 1 = h in absurd (omega arith)
-
+-- ---- X8: in the index buffer that a done build leaves, each triangle names vertices of its own face alone
 all-own : (job : Job) → AllOwn (faces job)
-all-own (OfCheapColumn job l) = alone _ (cheapLaws.column-own job l)
-all-own (OfPlane job ls) = alone _ (planeLaws.plane-own job ls)
+all-own (OfCheapColumn job l) = alone Own _ (cheapLaws.column-own job l)
+all-own (OfPlane job ls) = alone Own _ (planeLaws.plane-own job ls)
 all-own (OfColumn job ls) = columnLaws.column-own job ls
 
-pub triangles-own : (job : Job) (i : ℕ) → i < length (joined (faces job) .triangles) → OfFace (faces job) i
-triangles-own job = own-vertices (faces job) (all-own job)
+pub triangles-own : (job : Job) (B : Buffers) (c : Counts) → wholeAnswer job B ≡ Done c → (i : ℕ) → 3 * i < c .indices .0 → InFace (faces job) (built job B .indices) i
+triangles-own job B c e i h =
+    let d = done-build job B c e in
+    let m : measure (faces job) ≡ c = counts-are-sums job c (d .0) .1 in
+    held-own (faces job) (all-own job) (built job B) (built-mesh job B c e)
+    (rw (m, build-lengths job B .indices) (d .1 .indices)) i (rw m h)

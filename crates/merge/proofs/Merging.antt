@@ -11,9 +11,9 @@ use Rattle.face.specs.declared.triangle.Counts.{Counts}
 use Rattle.answer.specs.declared.answer.Refusal.the-variants.{Shape, Index}
 use Rattle.answer.specs.declared.answer.Answer.{Answer}
 use Rattle.answer.specs.declared.answer.Answer.the-variants.{Done, Refused}
-use Rattle.answer.specs.Answers.{given, limited, roomed}
+use Rattle.answer.specs.Answers.{Roomy, given, limited, roomed}
 use Rattle.answer.specs.Checks.{every}
-use Rattle.answer.proofs.Laws.{Roomy, every-at, given-done, done-limited, roomed-done}
+use Rattle.answer.proofs.Laws.{every-at, given-done, done-limited, roomed-done}
 use Rattle.buffers.specs.Mesh.{also}
 use Rattle.buffers.specs.Laying.{Buffers}
 use Rattle.buffers.proofs.Rooms.{both}

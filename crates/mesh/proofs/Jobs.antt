@@ -11,8 +11,8 @@ use Rattle.answer.specs.declared.answer.Refusal.{Refusal}
 use Rattle.answer.specs.declared.answer.Refusal.the-variants.{NoFace}
 use Rattle.answer.specs.declared.answer.Answer.{Answer}
 use Rattle.answer.specs.declared.answer.Answer.the-variants.{Done, Refused}
-use Rattle.answer.specs.Answers.{given, limited, named, roomed, roomFor, after}
-use Rattle.answer.proofs.Laws.{Roomy, done-limited, named-done, roomed-done, room-enough, after-done, after-refused}
+use Rattle.answer.specs.Answers.{given, limited, named, roomed, roomFor, after, numberOf}
+use Rattle.answer.proofs.Laws.{done-limited, named-done, roomed-done, room-enough, room-short, after-done, after-refused}
 use Rattle.buffers.specs.Mesh.{Mesh, none, measure, startOf}
 use Rattle.buffers.specs.Laying.{Buffers, fits, reaches, layAll, layOne}
 use Rattle.buffers.specs.Steps.{Step, Lays, Refuses, stepped, run, Named}
@@ -20,11 +20,7 @@ use Rattle.buffers.specs.Windows.{AlikeOutside, SameLengths}
 use Rattle.buffers.proofs.Order.{any-order, one-lengths, lengths-same, lengths-then}
 use Rattle.buffers.proofs.Rooms.{room-so}
 use Rattle.buffers.proofs.Windows.{none-also, one-outside, one-past-end}
-use Rattle.mesh.specs.Jobs.{plannedOf, roomedIn, wholeOf, oneOf, builtOf, facedOf, called, calls}
-
--- the buffers have room for counts
-abbrev pub RoomIn : Counts → Buffers → Type 0
-RoomIn c B = Roomy c (length (B .vertices)) (length (B .normals)) (length (B .uvs)) (length (B .indices))
+use Rattle.mesh.specs.Jobs.{RoomIn, ShortIn, plannedOf, roomedIn, wholeOf, oneOf, builtOf, facedOf, called, calls}
 
 -- ---- X4: with the planned room, the whole build answers what the plan does
 pub plan-and-build : (checked : Answer → Answer) (fs : List Mesh) (B : Buffers) → ((c : Counts) → plannedOf checked fs ≡ Done c → RoomIn c B) → wholeOf checked fs B ≡ plannedOf checked fs
@@ -54,6 +50,16 @@ module _ (checked : Answer → Answer) (fs : List Mesh) (c : Counts) (p : planne
   no-face-answer k B h =
       ap (λ (a : Answer). roomedIn B (named a k (length fs))) p
       ∙ ap (λ (x : Bool). roomedIn B (given x NoFace (Done c))) (le-ltb k (length fs) h)
+
+  -- R5: where a buffer is too short for the whole plan, the build and each planned face are refused as 5
+  pub short-build : (B : Buffers) → ShortIn c B → numberOf (wholeOf checked fs B) ≡ 5
+  short-build B s = ap (λ (a : Answer). numberOf (roomedIn B a)) p ∙ room-short c _ _ _ _ s
+
+  pub short-face : (k : ℕ) (B : Buffers) → ShortIn c B → k < length fs → numberOf (oneOf checked fs k B) ≡ 5
+  short-face k B s h =
+      ap (λ (a : Answer). numberOf (roomedIn B (named a k (length fs)))) p
+      ∙ ap (λ (x : Bool). numberOf (roomedIn B (given x NoFace (Done c)))) (lt-ltb k (length fs) h)
+      ∙ room-short c _ _ _ _ s
 
   call-is-step : (k : ℕ) (B : Buffers) → RoomIn c B → facedOf checked fs k B ≡ layOne fs k none B
   call-is-step k B r = go (ltb k (length fs)) (ltb→lt k (length fs)) (nltb→le k (length fs))

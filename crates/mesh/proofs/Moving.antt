@@ -21,8 +21,8 @@ use Rattle.answer.specs.declared.answer.Answer.{Answer}
 use Rattle.answer.specs.declared.answer.Answer.the-variants.{Done, Refused}
 use Rattle.answer.specs.declared.answer.Refusal.{Refusal}
 use Rattle.answer.specs.declared.answer.Refusal.the-variants.{Shape, Range, Empty}
-use Rattle.answer.specs.Answers.{limited, after, valueOf}
-use Rattle.answer.proofs.Laws.{Roomy, given-done, done-limited, not-done, same-counts}
+use Rattle.answer.specs.Answers.{Roomy, limited, after, valueOf}
+use Rattle.answer.proofs.Laws.{given-done, done-limited, not-done, same-counts}
 use Rattle.buffers.specs.Laying.{Buffers, three, two, laid}
 use Rattle.buffers.proofs.Laid.{Laying, laying-more, laid-outside, chain-length}
 use Rattle.buffers.proofs.Rooms.{both}

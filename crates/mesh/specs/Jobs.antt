@@ -3,8 +3,9 @@
 use Prim.Native.Nat.{ℕ}
 use mathlib.Core.List.{List, [], _∷_}
 use lib.ListN.{length}
+use Rattle.face.specs.declared.triangle.Counts.{Counts}
 use Rattle.answer.specs.declared.answer.Answer.{Answer}
-use Rattle.answer.specs.Answers.{limited, named, roomed, after}
+use Rattle.answer.specs.Answers.{limited, named, roomed, after, Roomy, Short}
 use Rattle.buffers.specs.Mesh.{Mesh, none, measure}
 use Rattle.buffers.specs.Laying.{Buffers, layAll, layOne}
 use Rattle.buffers.specs.Steps.{Step, Lays, Refuses}
@@ -12,6 +13,13 @@ use Rattle.buffers.specs.Steps.{Step, Lays, Refuses}
 -- R11, R18: 1, 2, 3, which the job's own tests give, then 4; no buffer is lent
 abbrev pub plannedOf : (Answer → Answer) → List Mesh → Answer
 plannedOf checked fs = checked (limited (measure fs))
+
+-- R5: the buffers hold counts, all four of them; and one of them does not
+abbrev pub RoomIn : Counts → Buffers → Type 0
+RoomIn c B = Roomy c (length (B .vertices)) (length (B .normals)) (length (B .uvs)) (length (B .indices))
+
+abbrev pub ShortIn : Counts → Buffers → Type 0
+ShortIn c B = Short c (length (B .vertices)) (length (B .normals)) (length (B .uvs)) (length (B .indices))
 
 abbrev pub roomedIn : Buffers → Answer → Answer
 roomedIn B a = roomed a (length (B .vertices)) (length (B .normals)) (length (B .uvs)) (length (B .indices))

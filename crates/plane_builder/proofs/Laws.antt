@@ -16,7 +16,7 @@ use Rattle.buffers.specs.Laying.{Buffers, fits, lay, layAll, layOne, laidIfFits
 use Rattle.buffers.specs.Faces.{hexagonMesh}
 use Rattle.buffers.specs.Windows.{Own}
 use Rattle.buffers.proofs.Windows.{also-none}
-use Rattle.buffers.proofs.Faces.{standing-size, hexagon-size, laid-so}
+use Rattle.buffers.proofs.Faces.{FewIndices, standing-size, hexagon-size, laid-so, standing-few, hexagon-few}
 use Rattle.buffers.proofs.Joined.{hexagon-own, standing-own}
 use Rattle.mesh.proofs.Jobs.{whole-room, face-room}
 use Rattle.plane_builder.specs.declared.Plane.{Plane}
@@ -82,3 +82,10 @@ module _ (job : Plane) (ls : Lists) where
       let o = optionsOf job ls in
       let h = capHexagon (ls .corners) o in
       standing-own (standOf job) (hexagonMesh (o .inset) h) (hexagon-own (o .inset) h)
+
+  -- and it has at most four indices a vertex
+  pub plane-few : FewIndices (planeMesh job ls)
+  plane-few =
+      let o = optionsOf job ls in
+      let h = capHexagon (ls .corners) o in
+      standing-few (standOf job) (hexagonMesh (o .inset) h) (hexagon-few (o .inset) h)

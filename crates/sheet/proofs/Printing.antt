@@ -19,8 +19,8 @@ use Rattle.answer.specs.declared.answer.Refusal.{Refusal}
 use Rattle.answer.specs.declared.answer.Refusal.the-variants.{Room, Sheet}
 use Rattle.answer.specs.declared.answer.Answer.{Answer}
 use Rattle.answer.specs.declared.answer.Answer.the-variants.{Done, Refused}
-use Rattle.answer.specs.Answers.{code, given, limited, roomFor}
-use Rattle.answer.proofs.Laws.{Roomy, done-limited, roomed-done, room-enough, after-done}
+use Rattle.answer.specs.Answers.{Roomy, code, given, limited, roomFor}
+use Rattle.answer.proofs.Laws.{done-limited, roomed-done, room-enough, after-done}
 use Rattle.placement.specs.Options.{optionFor}
 use Rattle.buffers.specs.Mesh.{Mesh, none, sizeOf, measure, joined}
 use Rattle.buffers.specs.Laying.{Buffers, four, layAll}
