@@ -1,5 +1,5 @@
--- The counts of a height map by its names alone, in one pass over the cells: speed alone asks for them; R16 says that they
--- are to be the sums over its faces. Definitions only.
+-- The counts of a height map by its names alone, in one pass over the cells: speed alone asks for them, and
+-- proofs/Counts.antt says that they are the sums over its faces (R16). Definitions only.
 use Prim.Native.Nat.{ℕ}
 use mathlib.Core.Bool.{cond}
 use Rattle.face.specs.declared.triangle.Counts.{Counts}
