@@ -14,7 +14,7 @@ use Rattle.placement.specs.declared.placement.Placement.{Placement}
 use Rattle.placement.specs.declared.placement.Stand.{Stand}
 use Rattle.placement.specs.Options.{entryCount, isTable, optionAt, choiceNames, optionFor}
 use Rattle.placement.specs.Speed.{shiftsAlone, shiftOf}
-use Rattle.placement.specs.Placing.{stood, stoodNormal, standBy, settled, placementInRange}
+use Rattle.placement.specs.Placing.{stood, stoodNormal, standFrom, standBy, settled, placementInRange}
 
 pub entries-determined : (ms : List ℕ) (r s : ℕ) → r ≡ entryCount ms → s ≡ entryCount ms → r ≡ s
 entries-determined ms r s p q = determined p q
@@ -30,6 +30,9 @@ choice-names-determined c n r s p q = determined p q
 
 pub option-for-determined : (ns : List Float) (ms : List ℕ) (c : Choice) (r s : FaceOptions) → r ≡ optionFor ns ms c → s ≡ optionFor ns ms c → r ≡ s
 option-for-determined ns ms c r s p q = determined p q
+
+pub stand-from-determined : (o f : Choice3) (half : Bool) (w : Placement) (r s : Stand) → r ≡ standFrom o f half w → s ≡ standFrom o f half w → r ≡ s
+stand-from-determined o f half w r s p q = determined p q
 
 pub stand-by-determined : (f : Choice3) (half : Bool) (w : Placement) (r s : Stand) → r ≡ standBy f half w → s ≡ standBy f half w → r ≡ s
 stand-by-determined f half w r s p q = determined p q

@@ -44,18 +44,32 @@ moved s p = cond (s .on) (plus3 p (s .by)) p
 abbrev pub halfTurned : Bool → Vec3 → Vec3
 halfTurned half p = cond half (v3 (neg (p .x)) (neg (p .y)) (p .z)) p
 
--- ---- B6 to B9, B18: a position is moved by a first offset, turned by half, scaled, turned and moved, each if so;
--- a normal takes the two turns alone
+-- ---- B6 to B9, B18: a position is moved by a first offset, turned by half, scaled, turned and moved, each if so
+abbrev pub placed : Stand → Vec3 → Vec3
+placed t p = moved (t .offset) (turned (t .turn) (scaled (t .scale) (halfTurned (t .half) (moved (t .first) p))))
+
+-- B19: and moved by an origin last; a normal takes the two turns alone
 abbrev pub stood : Stand → Vec3 → Vec3
-stood t p = moved (t .offset) (turned (t .turn) (scaled (t .scale) (halfTurned (t .half) (moved (t .first) p))))
+stood t p = moved (t .origin) (placed t p)
 
 abbrev pub stoodNormal : Stand → Vec3 → Vec3
 stoodNormal t n = turned (t .turn) (halfTurned (t .half) n)
 
--- how a face stands by a job's placement, after a first offset and a half turn of its own
+-- how a face stands by a job's placement, after a first offset and a half turn of its own, and before an origin
+abbrev pub standFrom : Choice3 → Choice3 → Bool → Placement → Stand
+standFrom origin first half s =
+    record {
+      first = supplied first;
+      half = half;
+      scale = supplied (s .scale);
+      turn = suppliedTurn (s .turn);
+      offset = supplied (s .offset);
+      origin = supplied origin;
+    }
+
+-- planes and columns have none
 abbrev pub standBy : Choice3 → Bool → Placement → Stand
-standBy first half s =
-    record { first = supplied first; half = half; scale = supplied (s .scale); turn = suppliedTurn (s .turn); offset = supplied (s .offset) }
+standBy = standFrom choice.Absent
 
 -- B7, B19: the position, at height +0, is always added; a supplied offset joins it first
 abbrev pub settled : Placement → Vec2 → Placement

@@ -9,4 +9,4 @@ abbrev pub shiftsAlone : Stand → Bool
 shiftsAlone t = not (t .half) && (not (t .scale .on) && not (t .turn .on))
 
 abbrev pub shiftOf : Stand → Vec3 → Vec3
-shiftOf t p = moved (t .offset) (moved (t .first) p)
+shiftOf t p = moved (t .origin) (moved (t .offset) (moved (t .first) p))

@@ -4,7 +4,7 @@ ghost use mathlib.Core.Path.{_≡_};
 ghost use mathlib.Core.Bool.{_&&_};
 ghost use Rattle.answer.specs.Checks.{inRange3};
 ghost use Rattle.placement.specs.Speed.{shiftsAlone, shiftOf};
-ghost use Rattle.placement.specs.Placing.{ones, supplied, suppliedTurn, scaled, dot, turned, moved, halfTurned, stood, stoodNormal, standBy, settled, choiceInRange, turnInRange, placementInRange};
+ghost use Rattle.placement.specs.Placing.{ones, supplied, suppliedTurn, scaled, dot, turned, moved, halfTurned, placed, stood, stoodNormal, standFrom, standBy, settled, choiceInRange, turnInRange, placementInRange};
 use face::vec::Vec2;
 use face::vec::Vec3;
 
@@ -40,13 +40,15 @@ pub struct SuppliedTurn {
     pub third: Vec3,
 }
 
-// All that moves a face: a first offset, a half turn, scale, turn and offset, in this order, each if it is so.
+// All that moves a face: a first offset, a half turn, scale, turn, offset and a map's origin, in this order, each if it
+// is so.
 pub struct Stand {
     pub first: Supplied3,
     pub half: bool,
     pub scale: Supplied3,
     pub turn: SuppliedTurn,
     pub offset: Supplied3,
+    pub origin: Supplied3,
 }
 
 fn ones() -> Vec3
@@ -90,9 +92,9 @@ fn supply_turn(turn: Turn) -> SuppliedTurn
     }
 }
 
-// How a face stands by a job's placement, after a first offset and a half turn of its own.
-pub fn stand_by(first: Choice3, half: bool, s: Placement) -> Stand
-    ensures { λ r. ⌜ r ≡ standBy first half s ⌝ }
+// How a face stands by a job's placement, after a first offset and a half turn of its own, and before an origin.
+pub fn stand_from(origin: Choice3, first: Choice3, half: bool, s: Placement) -> Stand
+    ensures { λ r. ⌜ r ≡ standFrom origin first half s ⌝ }
 {
     let scale = s.scale;
     let turn = s.turn;
@@ -103,7 +105,15 @@ pub fn stand_by(first: Choice3, half: bool, s: Placement) -> Stand
         scale: supply(scale),
         turn: supply_turn(turn),
         offset: supply(offset),
+        origin: supply(origin),
     }
+}
+
+// The same of a job that has no origin.
+pub fn stand_by(first: Choice3, half: bool, s: Placement) -> Stand
+    ensures { λ r. ⌜ r ≡ standBy first half s ⌝ }
+{
+    stand_from(Choice3::Absent, first, half, s)
 }
 
 fn scale_by(s: Supplied3, p: Vec3) -> Vec3
@@ -161,11 +171,17 @@ fn half_turn(half: bool, p: Vec3) -> Vec3
     p
 }
 
-pub fn stand_point(t: Stand, p: Vec3) -> Vec3
-    ensures { λ r. ⌜ r ≡ stood t p ⌝ }
+fn place_point(t: Stand, p: Vec3) -> Vec3
+    ensures { λ r. ⌜ r ≡ placed t p ⌝ }
 {
     let start = half_turn(t.half, move_by(t.first, p));
     move_by(t.offset, turn_by(t.turn, scale_by(t.scale, start)))
+}
+
+pub fn stand_point(t: Stand, p: Vec3) -> Vec3
+    ensures { λ r. ⌜ r ≡ stood t p ⌝ }
+{
+    move_by(t.origin, place_point(t, p))
 }
 
 // Whether a face is neither turned nor scaled, as nearly every one is.
@@ -185,7 +201,7 @@ pub fn is_shift(t: Stand) -> bool
 pub fn shift_point(t: Stand, p: Vec3) -> Vec3
     ensures { λ r. ⌜ r ≡ shiftOf t p ⌝ }
 {
-    move_by(t.offset, move_by(t.first, p))
+    move_by(t.origin, move_by(t.offset, move_by(t.first, p)))
 }
 
 // A normal is turned, and neither scaled nor moved.

@@ -1,4 +1,4 @@
--- `shift_point`: moved twice. Assumes nothing.
+-- `shift_point`: moved three times. Assumes nothing.
 use borrow.Author.Needs.{needs}
 use Rattle.placement.proofs.placement.shift_point.Statement.{statement}
 use Rattle.placement.proofs.placement.shift_point.Tie as tie
@@ -9,4 +9,5 @@ shift-point-spec =
     (tie.spec
     (λ c κs. search needs)
     (λ c κs. search needs)
-    (λ c. rw (c .move-by2 .ensures, c .before .move-by .ensures)))
+    (λ c κs. search needs)
+    (λ c. rw (c .move-by3 .ensures, c .before .move-by2 .ensures, c .before .before .move-by .ensures)))

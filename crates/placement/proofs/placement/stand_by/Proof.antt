@@ -1,4 +1,4 @@
--- `stand_by`: part by part. Assumes nothing.
+-- `stand_by`: with no origin. Assumes nothing.
 use borrow.Author.Needs.{needs}
 use Rattle.placement.proofs.placement.stand_by.Statement.{statement}
 use Rattle.placement.proofs.placement.stand_by.Tie as tie
@@ -8,7 +8,4 @@ stand-by-spec =
     tie.close
     (tie.spec
     (λ c κs. search needs)
-    (λ c κs. search needs)
-    (λ c κs. search needs)
-    (λ c κs. search needs)
-    (λ c. rw (c .before .before .before .supply .ensures, c .before .before .supply2 .ensures, c .before .supply-turn .ensures, c .supply3 .ensures)))
+    (λ c. rw (c .stand-from .ensures)))

@@ -1,4 +1,4 @@
--- `stand_point`: step by step. Assumes nothing.
+-- `stand_point`: placed, then moved by the origin. Assumes nothing.
 use borrow.Author.Needs.{needs}
 use Rattle.placement.proofs.placement.stand_point.Statement.{statement}
 use Rattle.placement.proofs.placement.stand_point.Tie as tie
@@ -9,7 +9,4 @@ stand-point-spec =
     (tie.spec
     (λ c κs. search needs)
     (λ c κs. search needs)
-    (λ c κs. search needs)
-    (λ c κs. search needs)
-    (λ c κs. search needs)
-    (λ c. rw (c .move-by2 .ensures, c .before .turn-by .ensures, c .before .before .scale-by .ensures, c .before .before .before .half-turn .ensures, c .before .before .before .before .move-by .ensures)))
+    (λ c. rw (c .move-by .ensures, c .before .place-point .ensures)))

@@ -1,0 +1,24 @@
+-- What a whole build and a face call of a height map answer and leave; R11 to R17 are rows of docs/TRACE.md. Definitions only.
+use Prim.Native.Nat.{ℕ}
+use Rattle.answer.specs.declared.answer.Answer.{Answer}
+use Rattle.buffers.specs.Laying.{Buffers}
+use Rattle.mesh.specs.Jobs.{wholeOf, oneOf, builtOf, facedOf}
+use Rattle.heightmap.specs.declared.HeightMap.{HeightMap}
+use Rattle.heightmap.specs.HeightMap.{Lists, mapFaces}
+use Rattle.heightmap.specs.Tests.{checked}
+
+-- R11
+abbrev pub wholeAnswer : HeightMap → Lists → Buffers → Answer
+wholeAnswer job ls = wholeOf (checked job ls) (mapFaces job ls)
+
+-- R12
+abbrev pub faceAnswer : HeightMap → Lists → ℕ → Buffers → Answer
+faceAnswer job ls = oneOf (checked job ls) (mapFaces job ls)
+
+-- R16: every face
+abbrev pub built : HeightMap → Lists → Buffers → Buffers
+built job ls = builtOf (checked job ls) (mapFaces job ls)
+
+-- R17: the k-th alone
+abbrev pub faced : HeightMap → Lists → ℕ → Buffers → Buffers
+faced job ls = facedOf (checked job ls) (mapFaces job ls)

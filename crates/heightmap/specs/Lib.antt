@@ -1,0 +1,6 @@
+pub mod Grid
+pub mod HeightMap
+pub mod Tests
+pub mod Counts
+pub mod Names
+pub mod Calls
