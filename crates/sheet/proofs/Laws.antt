@@ -133,9 +133,12 @@ written-within true text old new r w =
     rw (e, b, length-append text (drop (length text) old)) (omega arith)
 written-within false text old new r w = let e : r ≡ 0 = w .count in omega arith
 
+pub written-counts : (ok : Bool) (text old new : List ℕ) (r : ℕ) → Written ok text old new r → r ≡ length (take r new)
+written-counts ok text old new r w = sym (length-take-le r new (written-within ok text old new r w))
+
 -- ---- what callers cite of an answer
 pub answer-within : (bytes old new : List ℕ) (r : ℕ) → Answered bytes old new r → r ≤ length new
 answer-within bytes old = written-within (leb (length (answerText bytes)) (length old)) (answerText bytes) old
 
 pub answer-counts : (bytes old new : List ℕ) (r : ℕ) → Answered bytes old new r → r ≡ length (take r new)
-answer-counts bytes old new r w = sym (length-take-le r new (answer-within bytes old new r w))
+answer-counts bytes old = written-counts (leb (length (answerText bytes)) (length old)) (answerText bytes) old
