@@ -124,7 +124,7 @@ impl Job for Plane {
 
     fn build(&self) -> Result<Mesh, Refusal> {
         let call = self.call();
-        let mut mesh = Mesh::zeroed(call.plan()?);
+        let mut mesh = Mesh::zeroed(call.plan()?)?;
         call.build(&mut mesh.buffers())?;
         Ok(mesh)
     }
