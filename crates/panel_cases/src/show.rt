@@ -1,5 +1,8 @@
 // Asking for an answer, and printing it.
 
+// `room` of the sheet's definitions, which every answer fits.
+const ROOM: usize = 81487;
+
 // Longer answers are printed as their length and their sum.
 const SHORT: usize = 1000;
 
@@ -24,7 +27,7 @@ fn print(answer: &[u8]) {
 }
 
 pub(crate) fn print_case(name: &[u8], sheet: &[u8]) {
-    let mut out = [0u8; 98432];
+    let mut out = [0u8; ROOM];
     let n = sheet::write_answer(sheet, &mut out);
     io::write_all(1, name);
     io::write_all(1, b"\n");

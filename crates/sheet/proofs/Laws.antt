@@ -95,15 +95,17 @@ by-lines word w (suc m) =
     ∙ ap₂ (λ (x y : List ℕ). x ++ y) (by-lines word w m) (chain-alike (λ r. f (w * m + r)) (λ r. word (w * m + r) ++ (gap w r ∷ [])) w (λ r u. rw (mul-add-mod-self-left w m r))))
 
 -- ---- how long a text is
-index-lines-most : (is : List ℕ) → ((k : ℕ) → getD is k 0 < 65536) → (n : ℕ) → length (indexLines is n) ≤ 6 * n
+-- indices of so many digits at most, each with what follows it
+pub index-lines-most : (w : ℕ) (is : List ℕ) → ((k : ℕ) → getD is k 0 < 10 ^ suc w) → (n : ℕ) → length (indexLines is n) ≤ (w + 2) * n
 unfolding indexLines
-index-lines-most is h zero = omega arith
-index-lines-most is h (suc n) =
+index-lines-most w is h zero = omega arith
+index-lines-most w is h (suc n) =
     let e : length (chain (indexWord is) n ++ indexWord is n) ≡ length (chain (indexWord is) n) + length (indexWord is n) = length-append (chain (indexWord is) n) (indexWord is n) in
-    omega (arith, e, index-lines-most is h n, length-index is n, count-within 4 (getD is n 0) (omega (arith, h n)))
+    let m : (w + 2) * suc n ≡ (w + 2) * n + (w + 2) = mul-suc (w + 2) n in
+    omega (arith, e, m, index-lines-most w is h n, length-index is n, count-within w (getD is n 0) (h n))
 
 pub mesh-most : (B : Buffers) (c : Counts) → c .vertices .0 < 2 ^ 64 → c .indices .0 < 2 ^ 64 → ((k : ℕ) → getD (B .indices) k 0 < 65536) → length (meshText B c) ≤ 72 * c .vertices .0 + 6 * c .indices .0 + 113
-mesh-most B c p q h = omega (arith, length-mesh B c, index-lines-most (B .indices) h (c .indices .0), count-most (c .vertices .0) p, count-most (c .indices .0) q)
+mesh-most B c p q h = omega (arith, length-mesh B c, index-lines-most 4 (B .indices) (λ k. omega (arith, h k)) (c .indices .0), count-most (c .vertices .0) p, count-most (c .indices .0) q)
 
 pub refusal-most : (n : ℕ) → n < 2 ^ 64 → length (refusalText n) ≤ 29
 refusal-most n h = omega (arith, length-refusal n, count-most n h)
@@ -131,9 +133,12 @@ written-within true text old new r w =
     rw (e, b, length-append text (drop (length text) old)) (omega arith)
 written-within false text old new r w = let e : r ≡ 0 = w .count in omega arith
 
+pub written-counts : (ok : Bool) (text old new : List ℕ) (r : ℕ) → Written ok text old new r → r ≡ length (take r new)
+written-counts ok text old new r w = sym (length-take-le r new (written-within ok text old new r w))
+
 -- ---- what callers cite of an answer
 pub answer-within : (bytes old new : List ℕ) (r : ℕ) → Answered bytes old new r → r ≤ length new
 answer-within bytes old = written-within (leb (length (answerText bytes)) (length old)) (answerText bytes) old
 
 pub answer-counts : (bytes old new : List ℕ) (r : ℕ) → Answered bytes old new r → r ≡ length (take r new)
-answer-counts bytes old new r w = sym (length-take-le r new (answer-within bytes old new r w))
+answer-counts bytes old = written-counts (leb (length (answerText bytes)) (length old)) (answerText bytes) old

@@ -5,6 +5,7 @@ pub mod Laws
 pub mod Exact
 pub mod Longest
 pub mod Overlong
+pub mod Most
 pub mod Printing
 mod Alike
 mod Steps

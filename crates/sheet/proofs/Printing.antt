@@ -100,7 +100,7 @@ roomed-printable (Refused e) B s h = refl
 roomed-printable (Done c) B s h = rw (s .vertices, s .normals, s .uvs, s .indices) (room-1024 c (h c refl))
 
 module _ (job : Column) (ls : Lists) where
-  planned-counts : (c : Counts) → planned job ls ≡ Done c → measure (columnFaces job ls) ≡ c
+  pub planned-counts : (c : Counts) → planned job ls ≡ Done c → measure (columnFaces job ls) ≡ c
   planned-counts c e = done-limited (measure (columnFaces job ls)) c (passes job ls (limited (measure (columnFaces job ls))) c e) .1
 
   pub whole-printable : (B : Buffers) → For1024 B → wholeAnswer job ls B ≡ printable (planned job ls)

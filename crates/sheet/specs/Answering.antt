@@ -1,5 +1,5 @@
 -- The text that a sheet is answered with; P1 to P9 and R9 are rows of docs/TRACE.md. Definitions only.
-use Prim.Native.Nat.{ℕ}
+use Prim.Native.Nat.{ℕ, _+_, _*_}
 use mathlib.Core.Bool.{Bool, cond}
 use mathlib.Core.List.{List, [], map}
 use lib.Dec.{leb, ltb}
@@ -98,3 +98,8 @@ answerText bytes = readingText (reading bytes)
 -- at the start of a buffer, where there is room for it
 abbrev pub Answered : List ℕ → List ℕ → List ℕ → ℕ → Type 0
 Answered bytes = TextWritten (answerText bytes)
+
+-- the room that every answer fits: of 1,024 vertices eight numbers of nine bytes each, 1,542 indices of five bytes at
+-- most, and the headings
+abbrev pub room : ℕ
+room = 72 * 1024 + (5 * 1542 + 49)

@@ -37,7 +37,9 @@ pub struct Column {
     pub height: f32,
     /// How many quads lie above one another in a side; none and 0 are 1.
     pub subdivisions: Option<u32>,
-    /// The left and the right end of each side, seen from outside, x and z.
+    /// The left and the right end of each side, x and z, seen from the middle of the column (axes
+    /// right-handed, y up). Its triangles then turn counter-clockwise seen from outside; with the ends
+    /// exchanged, clockwise. Its normal is left + right, normalised, in either order.
     pub side_ends: [[[f32; 2]; 2]; 6],
     /// The options of each side that is there.
     pub sides: [Option<FaceOptions>; 6],
@@ -186,7 +188,7 @@ impl Job for Column {
 
     fn build(&self) -> Result<Mesh, Refusal> {
         let call = self.call();
-        let mut mesh = Mesh::zeroed(call.plan()?);
+        let mut mesh = Mesh::zeroed(call.plan()?)?;
         call.build(&mut mesh.buffers())?;
         Ok(mesh)
     }

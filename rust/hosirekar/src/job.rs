@@ -44,7 +44,7 @@ pub trait Job {
     ///
     /// let corners = [[2.0, 0.0], [1.0, 2.0], [-1.0, 2.0], [-2.0, 0.0], [-1.0, -2.0], [1.0, -2.0]];
     /// let column = Column::new(corners, 5.0);
-    /// let mut mesh = Mesh::zeroed(column.plan()?);
+    /// let mut mesh = Mesh::zeroed(column.plan()?)?;
     /// // Any order will do, and a face may be written twice.
     /// for face in [7, 0, 3, 6, 2, 1, 3, 5, 4] {
     ///     column.build_face(face, &mut mesh.buffers())?;
@@ -66,7 +66,7 @@ pub trait Job {
     ///
     /// [`Range`](Refusal::Range), [`Limit`](Refusal::Limit).
     fn build(&self) -> Result<Mesh, Refusal> {
-        let mut mesh = Mesh::zeroed(self.plan()?);
+        let mut mesh = Mesh::zeroed(self.plan()?)?;
         self.build_into(&mut mesh.buffers())?;
         Ok(mesh)
     }

@@ -25,8 +25,9 @@
 //! # Refusals
 //!
 //! No call panics and none half succeeds. A call that is refused says why with a [`Refusal`] and
-//! leaves everything as it was. Every number of a job must be finite and at most 1,000,000 either
-//! way, and a mesh has at most 65,536 vertices.
+//! leaves everything as it was, but for a mesh that it took by value
+//! ([`with_scale`](Mesh::with_scale) and its like), which is dropped. Every number of a job must be
+//! finite and at most 1,000,000 either way, and a mesh has at most 65,536 vertices.
 //!
 //! ```
 //! use hosirekar::{Column, Job, Refusal};

@@ -20,7 +20,8 @@ pub struct Counts {
 /// A mesh: a position, a normal and a uv for each vertex, and triangles by vertex numbers.
 ///
 /// The number of its positions is that of its vertices. Where the normals or the uvs are not as
-/// many, every call on the mesh is refused as a [`Shape`](Refusal::Shape).
+/// many, every call on the mesh is refused as a [`Shape`](Refusal::Shape), but for
+/// [`buffers`](Mesh::buffers), which lends the lists as they are.
 ///
 /// ```
 /// use hosirekar::{CheapColumn, Job, Plane};
@@ -72,16 +73,29 @@ fn zeros<T: Copy>(zero: T, count: usize) -> Vec<T> {
     list
 }
 
+/// The most vertices of a plan.
+const MOST_VERTICES: usize = 65_536;
+
+/// The most indices of a plan: four a vertex.
+const MOST_INDICES: usize = 4 * MOST_VERTICES;
+
 impl Mesh {
     /// A mesh of so many vertices and indices, all 0, to be written to.
-    #[must_use]
-    pub fn zeroed(counts: Counts) -> Self {
-        Self {
+    ///
+    /// # Errors
+    ///
+    /// [`Limit`](Refusal::Limit) above 65,536 vertices or 262,144 indices, which no plan has: nothing
+    /// is allocated for such counts.
+    pub fn zeroed(counts: Counts) -> Result<Self, Refusal> {
+        if counts.vertices > MOST_VERTICES || counts.indices > MOST_INDICES {
+            return Err(Refusal::Limit);
+        }
+        Ok(Self {
             vertices: zeros([0.0; 3], counts.vertices),
             normals: zeros([0.0; 3], counts.vertices),
             uvs: zeros([0.0; 2], counts.vertices),
             indices: zeros(0, counts.indices),
-        }
+        })
     }
 
     /// Its lists, lent.

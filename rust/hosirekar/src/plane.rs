@@ -6,7 +6,7 @@ use crate::refusal::answered;
 use crate::{Counts, FaceOptions, Job, Mesh, MeshBuffers, Refusal};
 use hosirekar_sys::{hosirekar_plane_build, hosirekar_plane_face, hosirekar_plane_plan, CPlane};
 
-/// A hexagon that faces upwards, as hexx's `PlaneMeshBuilder` makes it. It is one face.
+/// A hexagon whose normal is up, as hexx's `PlaneMeshBuilder` makes it. It is one face.
 ///
 /// It is scaled, then turned, then moved by its position and offset. Its corners are
 /// centre-aligned: `HexLayout::center_aligned_hex_corners` gives them.
@@ -44,6 +44,9 @@ pub struct Plane {
 
 impl Plane {
     /// A plane of these corners at (0, 0).
+    ///
+    /// Corners in turn from the x axis towards the z axis make its triangles face upwards. Its normal
+    /// is up in any order.
     #[must_use]
     pub fn new(corners: [[f32; 2]; 6]) -> Self {
         Self {
@@ -124,7 +127,7 @@ impl Job for Plane {
 
     fn build(&self) -> Result<Mesh, Refusal> {
         let call = self.call();
-        let mut mesh = Mesh::zeroed(call.plan()?);
+        let mut mesh = Mesh::zeroed(call.plan()?)?;
         call.build(&mut mesh.buffers())?;
         Ok(mesh)
     }

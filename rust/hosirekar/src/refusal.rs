@@ -22,7 +22,7 @@ pub enum Refusal {
     Range = 2,
     /// A neighbour is neither a cell nor none.
     Neighbour = 3,
-    /// There would be more than 65,536 vertices.
+    /// There would be more than 65,536 vertices, or more indices than so many have in any plan.
     Limit = 4,
     /// A lent buffer is shorter than the whole mesh needs.
     Room = 5,
@@ -71,7 +71,7 @@ impl fmt::Display for Refusal {
             }
             Refusal::Neighbour => "a neighbour does not exist: name a cell of the map, or none",
             Refusal::Limit => {
-                "more than 65,536 vertices: ask for fewer faces, parts or insets, or for several meshes"
+                "more than 65,536 vertices, or the indices of more: ask for fewer faces, parts or insets, or for several meshes"
             }
             Refusal::Room => "a buffer is too short: lend four with the room that the plan counts",
             Refusal::NoFace => "the job has no face of that number: count its faces from 0",

@@ -30,13 +30,21 @@ fn dot(a: [f32; 3], b: [f32; 3]) -> f32 {
     a[0] * b[0] + a[1] * b[1] + a[2] * b[2]
 }
 
-/// Whether each triangle turns counter-clockwise about the normal of its first vertex.
-fn looks_along_its_normals(mesh: &Mesh) -> bool {
-    mesh.indices.chunks_exact(3).all(|triangle| {
+/// How far each triangle turns counter-clockwise about the normal of its first vertex.
+fn turns(mesh: &Mesh) -> impl Iterator<Item = f32> + '_ {
+    mesh.indices.chunks_exact(3).map(|triangle| {
         let at = |k: usize| mesh.vertices[usize::from(triangle[k])];
         let turns = cross(minus(at(1), at(0)), minus(at(2), at(0)));
-        dot(turns, mesh.normals[usize::from(triangle[0])]) > 0.0
+        dot(turns, mesh.normals[usize::from(triangle[0])])
     })
+}
+
+fn looks_along_its_normals(mesh: &Mesh) -> bool {
+    turns(mesh).all(|turn| turn > 0.0)
+}
+
+fn looks_against_its_normals(mesh: &Mesh) -> bool {
+    turns(mesh).all(|turn| turn < 0.0)
 }
 
 #[test]
@@ -53,6 +61,25 @@ fn faces_look_outwards() {
             assert!(dot(minus(*vertex, [0.0, 1.0, 0.0]), *normal) > 0.0);
         }
     }
+}
+
+#[test]
+fn exchanged_ends_turn_a_side_inwards() {
+    // The side of the scope's sheet: its ends are left and right seen from outside.
+    let ends = [[1.0, 1.0], [1.0, -1.0]];
+    let mut column = Column {
+        side_ends: [ends; 6],
+        top: None,
+        bottom: None,
+        ..Column::new(layouts()[0].center_aligned_corners(), 2.0)
+    };
+    let inwards = column.build().unwrap();
+    assert!(looks_against_its_normals(&inwards));
+    column.side_ends.iter_mut().for_each(|ends| ends.reverse());
+    let outwards = column.build().unwrap();
+    assert!(looks_along_its_normals(&outwards));
+    assert_eq!(inwards.normals, [[1.0, 0.0, 0.0]; 24]);
+    assert_eq!(outwards.normals, inwards.normals);
 }
 
 #[test]

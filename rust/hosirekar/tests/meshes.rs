@@ -44,10 +44,7 @@ fn merging_nothing_changes_nothing() {
 
 #[test]
 fn a_merge_reaches_the_limit_and_does_not_pass_it() {
-    let mut mesh = Mesh::zeroed(Counts {
-        vertices: 65_533,
-        indices: 0,
-    });
+    let mut mesh = filled(65_533, 0);
     let full = Counts {
         vertices: 65_536,
         indices: 3,
@@ -64,10 +61,7 @@ fn a_merge_reaches_the_limit_and_does_not_pass_it() {
 
 #[test]
 fn a_stored_mesh_past_the_limit_is_refused() {
-    let mut mesh = Mesh::zeroed(Counts {
-        vertices: 65_537,
-        indices: 0,
-    });
+    let mut mesh = filled(65_537, 0);
     assert_eq!(mesh.scale([1.0; 3]), Err(Refusal::Limit));
     assert_eq!(mesh.centroid(), Err(Refusal::Limit));
     assert_eq!(mesh.merge_with(&Mesh::default()), Err(Refusal::Limit));

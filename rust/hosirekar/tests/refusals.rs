@@ -193,3 +193,122 @@ fn numbers_and_words_tell_refusals_apart() {
     words.sort();
     assert!(words.windows(2).all(|two| two[0] != two[1]));
 }
+
+#[test]
+fn a_mesh_that_no_plan_has_is_not_made() {
+    let zeroed = |vertices, indices| Mesh::zeroed(Counts { vertices, indices });
+    assert_eq!(zeroed(0, 0), Ok(Mesh::default()));
+    let most = Counts {
+        vertices: 65_536,
+        indices: 262_144,
+    };
+    assert_eq!(Mesh::zeroed(most).unwrap().counts(), Ok(most));
+    for more in [1 << 20, 1 << 32, isize::MAX as usize, usize::MAX] {
+        for vertices in [65_537, more] {
+            assert_eq!(zeroed(vertices, 0), Err(Refusal::Limit));
+            assert_eq!(zeroed(vertices, more), Err(Refusal::Limit));
+        }
+        for indices in [262_145, more] {
+            assert_eq!(zeroed(0, indices), Err(Refusal::Limit));
+        }
+    }
+}
+
+/// A job of the user's own, which plans what it likes and writes nothing.
+struct Boast(Counts);
+
+impl Job for Boast {
+    fn plan(&self) -> Result<Counts, Refusal> {
+        Ok(self.0)
+    }
+
+    fn build_into(&self, _: &mut MeshBuffers<'_>) -> Result<Counts, Refusal> {
+        Ok(self.0)
+    }
+
+    fn build_face(&self, _: usize, _: &mut MeshBuffers<'_>) -> Result<Counts, Refusal> {
+        Ok(self.0)
+    }
+}
+
+#[test]
+fn a_plan_past_the_limit_is_not_built() {
+    for (vertices, indices) in [(65_537, 0), (0, 262_145), (usize::MAX, usize::MAX)] {
+        let boast = Boast(Counts { vertices, indices });
+        assert_eq!(boast.build(), Err(Refusal::Limit));
+    }
+}
+
+/// Every call on a mesh, each with what it must answer. None changes the mesh.
+fn every_call_is_answered(mesh: &Mesh, refused: Option<Refusal>) {
+    let answer = |counts: Counts| refused.map_or(Ok(counts), Err);
+    let counts = Counts {
+        vertices: mesh.vertices.len(),
+        indices: mesh.indices.len(),
+    };
+    let mut same = mesh.clone();
+    assert_eq!(same.scale([1.0; 3]), answer(counts));
+    assert_eq!(same.offset([0.0; 3]), answer(counts));
+    assert_eq!(same.uv_scale([1.0; 2]), answer(counts));
+    assert_eq!(same.merge_with(&Mesh::default()), answer(counts));
+    let middle = refused.or((counts.vertices == 0).then_some(Refusal::Empty));
+    assert_eq!(same.centroid().err(), middle);
+    assert_eq!(same.uv_centroid().err(), middle);
+    let astray = counts.vertices == 0 && counts.indices > 0;
+    let merged = refused
+        .filter(|why| *why == Refusal::Shape)
+        .or(astray.then_some(Refusal::Index))
+        .or(refused);
+    assert_eq!(Mesh::default().merge_with(mesh).err(), merged);
+    assert!(bits(&same) == bits(mesh));
+}
+
+/// Every call of a job that writes to these lists, of any lengths.
+fn every_job_is_answered(mesh: &Mesh, job: &impl Job) {
+    let counts = job.plan().unwrap();
+    let has_room = mesh.vertices.len().min(mesh.normals.len()) >= counts.vertices
+        && mesh.uvs.len() >= counts.vertices
+        && mesh.indices.len() >= counts.indices;
+    let answer = if has_room {
+        Ok(counts)
+    } else {
+        Err(Refusal::Room)
+    };
+    let mut to = mesh.clone();
+    assert_eq!(
+        job.build_face(usize::MAX, &mut to.buffers()),
+        Err(Refusal::NoFace)
+    );
+    assert!(bits(&to) == bits(mesh));
+    assert_eq!(job.build_face(0, &mut to.buffers()), answer);
+    assert_eq!(job.build_into(&mut to.buffers()), answer);
+    assert!(has_room || bits(&to) == bits(mesh));
+}
+
+#[test]
+fn lists_of_any_lengths_are_answered() {
+    const LENGTHS: [usize; 3] = [0, 12, 65_537];
+    for v in LENGTHS {
+        for n in LENGTHS {
+            for t in LENGTHS {
+                for i in [0, 48, 262_145] {
+                    let mesh = Mesh {
+                        vertices: vec![[1.0; 3]; v],
+                        normals: vec![[1.0; 3]; n],
+                        uvs: vec![[1.0; 2]; t],
+                        indices: vec![0; i],
+                    };
+                    let refused = if v != n || v != t {
+                        Some(Refusal::Shape)
+                    } else {
+                        (v > 65_536).then_some(Refusal::Limit)
+                    };
+                    every_call_is_answered(&mesh, refused);
+                    every_job_is_answered(&mesh, &plane());
+                    every_job_is_answered(&mesh, &column());
+                    every_job_is_answered(&mesh, &cheap_column());
+                }
+            }
+        }
+    }
+}

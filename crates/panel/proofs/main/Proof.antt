@@ -1,6 +1,6 @@
 -- `main`: what is written is as much as was answered. Assumes nothing.
 use borrow.Author.Needs.{needs}
-use Rattle.sheet.proofs.Laws.{answer-within, answer-counts}
+use Rattle.sheet.proofs.Laws.{written-within, written-counts}
 use Rattle.panel.proofs.main.Statement.{statement}
 use Rattle.panel.proofs.main.Tie as tie
 
@@ -14,7 +14,7 @@ main-spec =
     (λ c. search needs)
     (λ c. search needs)
     (λ c κs. search needs)
-    (λ c. answer-within _ _ _ _ (c .before .write-answer .ensures))
-    (λ c. answer-counts _ _ _ _ (c .before .before .write-answer .ensures))
+    (λ c. written-within _ _ _ _ _ (c .before .write-whole .ensures))
+    (λ c. written-counts _ _ _ _ _ (c .before .before .write-whole .ensures))
     (λ c κs. search needs)
     (λ c. search needs))
