@@ -9,11 +9,8 @@ use borrow.Author.Tests.{le-leb, lt-leb, eq-eqb}
 use lib.Dec.{T, leb, ltb, ltb→lt, nltb→le}
 use lib.ListN.{length, replicate, length-replicate}
 use lib.Ieee.{nan}
-use Rattle.face.specs.declared.inset.Inset.{Inset}
-use Rattle.face.specs.declared.inset.Inset.the-variants.{None, Centroid, SmallestEdge}
 use Rattle.face.specs.declared.triangle.Counts.{Counts}
 use Rattle.face.specs.Vec.{f0}
-use Rattle.face.specs.Triangles.{insetCounts}
 use Rattle.answer.specs.declared.answer.Buffer.the-variants.{Vertices}
 use Rattle.answer.specs.declared.answer.Refusal.{Refusal}
 use Rattle.answer.specs.declared.answer.Refusal.the-variants.{Room, Sheet}
@@ -21,58 +18,27 @@ use Rattle.answer.specs.declared.answer.Answer.{Answer}
 use Rattle.answer.specs.declared.answer.Answer.the-variants.{Done, Refused}
 use Rattle.answer.specs.Answers.{Roomy, code, given, limited, roomFor}
 use Rattle.answer.proofs.Laws.{done-limited, roomed-done, room-enough, after-done}
-use Rattle.placement.specs.Options.{optionFor}
 use Rattle.buffers.specs.Mesh.{Mesh, none, sizeOf, measure, joined}
 use Rattle.buffers.specs.Laying.{Buffers, four, layAll}
-use Rattle.buffers.specs.Windows.{faceAt, Holds, SameLengths}
+use Rattle.buffers.specs.Windows.{Holds, SameLengths}
 use Rattle.buffers.proofs.Order.{lay-lengths}
 use Rattle.buffers.proofs.Joined.{all-is-joined, all-inside, joined-size, few-indices}
 use Rattle.mesh.specs.Jobs.{roomedIn}
 use Rattle.column.specs.declared.Column.{Column}
-use Rattle.column.specs.declared.Name.{Name}
-use Rattle.column.specs.declared.Name.the-variants.{OfSide, Top, Bottom}
-use Rattle.column.specs.Column.{Lists, sideAt, columnNames, columnFaces, meshOf, planned}
+use Rattle.column.specs.Column.{Lists, columnFaces, planned}
 use Rattle.column_builder.specs.Calls.{wholeAnswer, built}
-use Rattle.column.proofs.Counts.{part-size, top-size, bottom-size}
-use Rattle.column_builder.proofs.Whole.{passes}
+use Rattle.column_builder.proofs.Whole.{passes, column-few}
 use Rattle.sheet.specs.declared.reading.Reading.{Reading}
 use Rattle.sheet.specs.Readers.{reading}
 use Rattle.sheet.specs.Meshes.{meshText, refusalText, isWhole, wholeIn, Written, TextWritten, MeshWritten}
 use Rattle.sheet.proofs.Alike.{mesh-alike}
 use Rattle.sheet.specs.Answering.{columnOf, listsOf, printable, flat, textOf, textFor, columnText, readingText, answerText, Answered}
 
--- ---- a column has at most four indices a vertex
+-- ---- a column has at most four indices a vertex, so buffers for 1,024 vertices and 4,096 indices refuse a plan exactly
+-- when it has more vertices
 abbrev FewIn : Counts → Type 0
 FewIn c = c .indices .0 ≤ 4 * c .vertices .0
 
-quad-few : (how : Inset) → FewIn (insetCounts how 4 2)
-quad-few None = omega arith
-quad-few (Centroid k true) = omega arith
-quad-few (Centroid k false) = omega arith
-quad-few (SmallestEdge k true) = omega arith
-quad-few (SmallestEdge k false) = omega arith
-
-hexagon-few : (how : Inset) → FewIn (insetCounts how 6 4)
-hexagon-few None = omega arith
-hexagon-few (Centroid k true) = omega arith
-hexagon-few (Centroid k false) = omega arith
-hexagon-few (SmallestEdge k true) = omega arith
-hexagon-few (SmallestEdge k false) = omega arith
-
-map-few : (f : Name → Mesh) → ((n : Name) → FewIn (sizeOf (f n))) → (ns : List Name) (k : ℕ) → k < length (map f ns) → FewIn (sizeOf (faceAt (map f ns) k))
-map-few f h [] k u = absurd (let g : k < 0 = u in omega arith)
-map-few f h (n ∷ ns) zero u = h n
-map-few f h (n ∷ ns) (suc k) u = map-few f h ns k (let g : suc k < suc (length (map f ns)) = u in omega arith)
-
-face-few : (job : Column) (ls : Lists) (n : Name) → FewIn (sizeOf (meshOf job ls n))
-face-few job ls (OfSide d p) = subst FewIn (sym (part-size job ls d p)) (quad-few (optionFor (ls .numbers) (ls .marks) (sideAt (job .sides) d) .inset))
-face-few job ls Top = subst FewIn (sym (top-size job ls)) (hexagon-few (optionFor (ls .numbers) (ls .marks) (job .top) .inset))
-face-few job ls Bottom = subst FewIn (sym (bottom-size job ls)) (hexagon-few (optionFor (ls .numbers) (ls .marks) (job .bottom) .inset))
-
-column-few : (job : Column) (ls : Lists) → FewIn (measure (columnFaces job ls))
-column-few job ls = few-indices (columnFaces job ls) (map-few (meshOf job ls) (face-few job ls) (columnNames job))
-
--- ---- so buffers for 1,024 vertices and 4,096 indices refuse a plan exactly when it has more vertices
 pub record For1024 (B : Buffers) : Type 0 where
   pub vertices : length (B .vertices) ≡ 3072
   pub normals : length (B .normals) ≡ 3072
@@ -104,7 +70,7 @@ module _ (job : Column) (ls : Lists) where
   planned-counts c e = done-limited (measure (columnFaces job ls)) c (passes job ls (limited (measure (columnFaces job ls))) c e) .1
 
   pub whole-printable : (B : Buffers) → For1024 B → wholeAnswer job ls B ≡ printable (planned job ls)
-  whole-printable B s = roomed-printable (planned job ls) B s (λ c e. subst FewIn (planned-counts c e) (column-few job ls))
+  whole-printable B s = roomed-printable (planned job ls) B s (λ c e. subst FewIn (planned-counts c e) (few-indices (columnFaces job ls) (column-few job ls)))
 
   -- a refused build
   pub text-refused : (B : Buffers) (e : Refusal) → For1024 B → wholeAnswer job ls B ≡ Refused e → columnText job ls ≡ refusalText (code e)
