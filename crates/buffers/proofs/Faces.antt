@@ -8,6 +8,7 @@ use lib.ListN.{length, length-map, getD}
 use lib.Ieee.{Float}
 use Rattle.face.specs.declared.vec.Vec2.{Vec2}
 use Rattle.face.specs.declared.vec.Vec3.{Vec3}
+use Rattle.face.specs.declared.face.Quad.{Quad}
 use Rattle.face.specs.declared.inset.Inset.{Inset}
 use Rattle.face.specs.declared.inset.Inset.the-variants.{None, Centroid, SmallestEdge}
 use Rattle.face.specs.declared.inset.InsetQuad.{InsetQuad}
@@ -16,6 +17,7 @@ use Rattle.face.specs.declared.triangle.Triangle.{Triangle}
 use Rattle.face.specs.declared.triangle.Counts.{Counts}
 use Rattle.face.specs.Lists.{each, chain}
 use Rattle.face.specs.Vec.{off2, off3}
+use Rattle.face.specs.Inset.{insetQuadOf}
 use Rattle.face.specs.Triangles.{insetTriangles, insetCounts, quadTriangles, hexagonTriangles, noTriangle, counts}
 use Rattle.face.proofs.Filling.{length-each}
 use Rattle.face.proofs.Laws.{index-count}
@@ -25,7 +27,7 @@ use Rattle.placement.specs.Speed.{shiftsAlone, shiftOf}
 use Rattle.placement.proofs.Shifts.{shift-stands}
 use Rattle.buffers.specs.Mesh.{Vertex, Mesh, also, sizeOf}
 use Rattle.buffers.specs.Laying.{Buffers, four, three, two, corners, spread, laid, lay, fits, laidIfFits}
-use Rattle.buffers.specs.Faces.{vertexAt, faceOf, quadMesh, hexagonMesh, stoodVertex, standing}
+use Rattle.buffers.specs.Faces.{vertexAt, faceOf, quadMesh, hexagonMesh, stoodVertex, standing, wallMesh}
 use Rattle.buffers.proofs.Laid.{spread-each, spread-all}
 use Rattle.buffers.proofs.Order.{same-four}
 use Rattle.buffers.proofs.Rooms.{room-is}
@@ -172,3 +174,6 @@ hexagon-few how h = subst (λ (c : Counts). c .indices .0 ≤ 4 * c .vertices .0
 
 pub standing-few : (t : Stand) (m : Mesh) → FewIndices m → FewIndices (standing t m)
 standing-few t m h = subst (λ (c : Counts). c .indices .0 ≤ 4 * c .vertices .0) (sym (standing-size t m)) h
+
+pub wall-few : (t : Stand) (how : Inset) (q : Quad) → FewIndices (wallMesh t how q)
+wall-few t how q = standing-few t (quadMesh how (insetQuadOf how q)) (quad-few how (insetQuadOf how q))

@@ -6,18 +6,20 @@ use native.Mathlib.Nat.{zero-add, add-zero, add-assoc, suc-add}
 use native.Mathlib.Omega.{arith}
 use lib.ListN.{length, getD, take, length-append, length-map, List·getD-append}
 use lib.Seq.{getD-append-add}
+use Rattle.face.specs.declared.face.Quad.{Quad}
 use Rattle.face.specs.declared.inset.Inset.{Inset}
 use Rattle.face.specs.declared.inset.InsetQuad.{InsetQuad}
 use Rattle.face.specs.declared.inset.InsetHexagon.{InsetHexagon}
 use Rattle.face.specs.declared.triangle.Triangle.{Triangle}
 use Rattle.face.specs.declared.triangle.Counts.{Counts}
+use Rattle.face.specs.Inset.{insetQuadOf}
 use Rattle.face.specs.Triangles.{noTriangle, shifted, insetTriangles, insetCounts, quadTriangles, hexagonTriangles, counts}
 use Rattle.face.proofs.Filling.{length-each}
 use Rattle.face.proofs.Laws.{Below, quad-indices-below, hexagon-indices-below}
 use Rattle.buffers.specs.Mesh.{Vertex, Mesh, none, also, sizeOf, measure, startOf, trianglesFrom, verticesOf, joined}
 use Rattle.buffers.specs.Laying.{Buffers, four, three, two, corners, spread, laid, lay, layAll}
 use Rattle.placement.specs.declared.placement.Stand.{Stand}
-use Rattle.buffers.specs.Faces.{vertexAt, faceOf, quadMesh, hexagonMesh, stoodVertex, standing}
+use Rattle.buffers.specs.Faces.{vertexAt, faceOf, quadMesh, hexagonMesh, stoodVertex, standing, wallMesh}
 use Rattle.buffers.specs.Windows.{faceAt, Between, Within, AlikeOutside, Holds, Corners, Own, AllOwn, OfFace, InFace}
 use Rattle.buffers.proofs.Laid.{laid-append, laid-nothing, spread-append, spread-at}
 use Rattle.buffers.proofs.Order.{same-four, position-numbers, normal-numbers, uv-numbers, index-numbers}
@@ -211,3 +213,6 @@ hexagon-own how x i h =
 
 pub standing-own : (t : Stand) (m : Mesh) → Own m → Own (standing t m)
 standing-own t m o i h = rw (length-map (m .vertices) (stoodVertex t)) (o i h)
+
+pub wall-own : (t : Stand) (how : Inset) (q : Quad) → Own (wallMesh t how q)
+wall-own t how q = standing-own t (quadMesh how (insetQuadOf how q)) (quad-own how (insetQuadOf how q))

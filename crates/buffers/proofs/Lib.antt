@@ -6,4 +6,3 @@ pub mod Joined
 pub mod Faces
 pub mod Each
 pub mod Named
-pub mod Determined

@@ -1,4 +1,3 @@
 pub mod Counts
-pub mod Determined
 pub mod Numbering
 pub mod Parts

@@ -1,4 +1,3 @@
-pub mod Determined
 pub mod Laid
 pub mod Single
 pub mod Whole

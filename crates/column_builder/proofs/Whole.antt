@@ -1,32 +1,24 @@
 -- What a done answer says of the room, whose vertices a face names, and how many indices it has. Assumes nothing.
 use mathlib.Core.Path.{_≡_}
-use mathlib.Core.List.{List}
 use mathlib.Core.Bool.{true}
 use Prim.Native.Nat.{ℕ, _<_}
 use lib.ListN.{length}
-use lib.Ieee.{Float}
-use Rattle.face.specs.declared.face.Quad.{Quad}
-use Rattle.face.specs.declared.inset.Inset.{Inset}
 use Rattle.face.specs.declared.triangle.Counts.{Counts}
 use Rattle.face.specs.Face.{alteredQuad}
-use Rattle.face.specs.Inset.{insetQuadOf}
 use Rattle.answer.specs.declared.answer.Refusal.the-variants.{Shape, Range}
 use Rattle.answer.specs.declared.answer.Answer.{Answer}
 use Rattle.answer.specs.declared.answer.Answer.the-variants.{Done}
 use Rattle.answer.specs.Answers.{given}
 use Rattle.answer.proofs.Laws.{given-done}
-use Rattle.placement.specs.declared.options.FaceOptions.{FaceOptions}
-use Rattle.placement.specs.declared.placement.Stand.{Stand}
 use Rattle.placement.specs.Options.{optionFor}
 use Rattle.mesh.proofs.Jobs.{whole-room}
 use Rattle.buffers.specs.Mesh.{none, measure}
 use Rattle.buffers.specs.Laying.{Buffers, fits}
-use Rattle.buffers.specs.Faces.{quadMesh, hexagonMesh, wallMesh}
 use Rattle.buffers.specs.Windows.{faceAt, Own, AllOwn}
-use Rattle.buffers.proofs.Joined.{quad-own, hexagon-own, standing-own}
-use Rattle.buffers.proofs.Faces.{FewIndices, standing-few, quad-few, hexagon-few}
+use Rattle.buffers.proofs.Joined.{wall-own}
+use Rattle.buffers.proofs.Faces.{FewIndices, wall-few}
 use Rattle.buffers.proofs.Named.{names-all}
-use Rattle.plane_builder.specs.Cap.{capHexagon, capMesh}
+use Rattle.plane_builder.proofs.Caps.{cap-own, cap-few}
 use Rattle.column.specs.declared.Column.{Column}
 use Rattle.column.specs.declared.Name.{Name}
 use Rattle.column.specs.declared.Name.the-variants.{OfSide, Top, Bottom}
@@ -42,18 +34,6 @@ module _ (job : Column) (ls : Lists) where
   whole-ready = whole-room (checked job ls) (columnFaces job ls) passes
 
 -- ---- X8: every face's triangles name its own vertices
-wall-own : (t : Stand) (how : Inset) (q : Quad) → Own (wallMesh t how q)
-wall-own t how q = standing-own t (quadMesh how (insetQuadOf how q)) (quad-own how (insetQuadOf how q))
-
-cap-own : (t : Stand) (l : List Float) (o : FaceOptions) → Own (capMesh t l o)
-cap-own t l o = standing-own t (hexagonMesh (o .inset) (capHexagon l o)) (hexagon-own (o .inset) (capHexagon l o))
-
-wall-few : (t : Stand) (how : Inset) (q : Quad) → FewIndices (wallMesh t how q)
-wall-few t how q = standing-few t (quadMesh how (insetQuadOf how q)) (quad-few how (insetQuadOf how q))
-
-cap-few : (t : Stand) (l : List Float) (o : FaceOptions) → FewIndices (capMesh t l o)
-cap-few t l o = standing-few t (hexagonMesh (o .inset) (capHexagon l o)) (hexagon-few (o .inset) (capHexagon l o))
-
 module _ (job : Column) (ls : Lists) where
   name-own : (n : Name) → Own (meshOf job ls n)
   unfolding meshOf

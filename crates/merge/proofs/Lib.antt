@@ -1,5 +1,4 @@
 -- What callers cite is public; the rest is how loops are proved.
 pub mod Merging
-pub mod Determined
 pub mod Bench
 mod Copying

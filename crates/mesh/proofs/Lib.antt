@@ -1,4 +1,3 @@
 pub mod Jobs
 pub mod Moving
-pub mod Determined
 pub mod Bench

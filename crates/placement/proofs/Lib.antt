@@ -1,4 +1,3 @@
 pub mod Bench
-pub mod Determined
 mod Counting
 pub mod Shifts

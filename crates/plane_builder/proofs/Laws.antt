@@ -16,12 +16,12 @@ use Rattle.buffers.specs.Laying.{Buffers, fits, lay, layAll, layOne, laidIfFits
 use Rattle.buffers.specs.Faces.{hexagonMesh}
 use Rattle.buffers.specs.Windows.{Own}
 use Rattle.buffers.proofs.Windows.{also-none}
-use Rattle.buffers.proofs.Faces.{FewIndices, standing-size, hexagon-size, laid-so, standing-few, hexagon-few}
-use Rattle.buffers.proofs.Joined.{hexagon-own, standing-own}
+use Rattle.buffers.proofs.Faces.{FewIndices, standing-size, hexagon-size, laid-so}
 use Rattle.mesh.proofs.Jobs.{whole-room, face-room}
 use Rattle.plane_builder.specs.declared.Plane.{Plane}
 use Rattle.plane_builder.specs.Cap.{capHexagon}
 use Rattle.plane_builder.specs.Plane.{Lists, standOf, optionsOf, planeMesh, laidIfDone, planeFaces, shapeOf, rangeOf, checked, planned, wholeAnswer, faceAnswer, built, faced}
+use Rattle.plane_builder.proofs.Caps.{cap-own, cap-few}
 
 -- ---- one face alone
 pub alone-size : (m : Mesh) → measure (m ∷ []) ≡ sizeOf m
@@ -76,16 +76,9 @@ module _ (job : Plane) (ls : Lists) where
         let r = face-room (checked job ls) (planeFaces job ls) passes k B d e in
         alone-laid (planeMesh job ls) B (r .0) ∙ alone-one (planeMesh job ls) none B k (omega (arith, r .1)))
 
-  -- ---- its triangles name its own vertices
+  -- ---- its triangles name its own vertices, and it has at most four indices a vertex
   pub plane-own : Own (planeMesh job ls)
-  plane-own =
-      let o = optionsOf job ls in
-      let h = capHexagon (ls .corners) o in
-      standing-own (standOf job) (hexagonMesh (o .inset) h) (hexagon-own (o .inset) h)
+  plane-own = cap-own (standOf job) (ls .corners) (optionsOf job ls)
 
-  -- and it has at most four indices a vertex
   pub plane-few : FewIndices (planeMesh job ls)
-  plane-few =
-      let o = optionsOf job ls in
-      let h = capHexagon (ls .corners) o in
-      standing-few (standOf job) (hexagonMesh (o .inset) h) (hexagon-few (o .inset) h)
+  plane-few = cap-few (standOf job) (ls .corners) (optionsOf job ls)

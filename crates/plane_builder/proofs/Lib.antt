@@ -1,3 +1,2 @@
 pub mod Caps
 pub mod Laws
-pub mod Determined

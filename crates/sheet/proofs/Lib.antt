@@ -1,5 +1,5 @@
 -- What callers cite is public; the rest is how the text is read and written.
-pub mod Determined
+pub mod NotEmpty
 pub mod Bench
 pub mod Laws
 pub mod Exact

@@ -78,7 +78,7 @@ fn are_caps(lines: u32) -> bool
 }
 
 // Reads exactly the texts of lawful sheets, each as its sheet.
-pub fn read(bytes: &[u8]) -> Reading
+pub(crate) fn read(bytes: &[u8]) -> Reading
     ensures { λ r. ⌜ r ≡ reading (now (bytes .entry)) ⌝ }
 {
     let mut pairs = [0u32; 24];

@@ -11,7 +11,7 @@ use face::triangle::Counts;
 // Writes a mesh at the start of a buffer, and answers how many bytes it takes. Where there is no room
 // for them, a list is shorter than its count says or a triangle lacks a corner, it writes nothing and
 // answers 0.
-pub fn write_mesh(
+pub(crate) fn write_mesh(
     vertices: &[f32],
     normals: &[f32],
     uvs: &[f32],
@@ -58,7 +58,7 @@ fn put_mesh(
 }
 
 // Writes a refusal in the same way.
-pub fn write_refusal(number: u32, out: &mut [u8]) -> usize
+pub(crate) fn write_refusal(number: u32, out: &mut [u8]) -> usize
     ensures { λ r. ⌜ TextWritten (refusalText number) (now (out .entry)) (now (out .exit)) r ⌝ }
 {
     let n = number as usize;

@@ -1,0 +1,467 @@
+-- Of each public function: any two results that its promise allows are equal, and so is all that the two calls leave in what was lent to be written. `Learnt` is what a caller learns of a call: the function's own clauses as the prover reads them, so no promise is written here a second time. Equal as values: the logic has one NaN, so its pattern is left open. `tools/determined` finds a public function that is missing. Assumes nothing.
+use mathlib.Core.Path.{_≡_, refl, ap}
+use mathlib.Core.List.{[], _∷_}
+use Prim.Native.Nat.{ℕ, _≤_}
+use native.Mathlib.Omega.{arith}
+use lib.ListN.{length}
+use contract.Lifetimes.{Lfts}
+use denote.Triple.Entry.{Args}
+use denote.Triple.Clauses.{Lasts}
+use Rattle.arith.proofs.Determined.{determined}
+use Rattle.promises.specs.Fixes.{Fixes}
+use Rattle.arith.proofs as arith
+use Rattle.face.proofs as face
+use Rattle.patterns.proofs as patterns
+use Rattle.insetting.proofs as insetting
+use Rattle.answer.proofs as answer
+use Rattle.placement.proofs as placement
+use Rattle.buffers.proofs as buffers
+use Rattle.mesh.proofs as mesh
+use Rattle.plane_builder.proofs as plane_builder
+use Rattle.cheap_column.proofs as cheap_column
+use Rattle.merge.proofs as merge
+use Rattle.column.proofs as column
+use Rattle.boundary.proofs as boundary
+use Rattle.column_builder.proofs as column_builder
+use Rattle.sheet.proofs as sheet
+use Rattle.exports.proofs as exports
+
+-- ---- what fixes nothing: no promise, an inequality, a buffer that is left out
+pub no-promise : Fixes patterns.digit_value.ended (λ κs a x e. Unit {0}) → ⊥
+no-promise f = let z : _≡_ {A = ℕ} 0 1 = f tt (0, tt) 0 1 (tt, tt) (tt, tt) tt tt .0 in omega arith
+
+pub inequality : Fixes patterns.digit_value.ended (λ κs a x e. x ≤ 16) → ⊥
+inequality f = let z : _≡_ {A = ℕ} 0 1 = f tt (0, tt) 0 1 (tt, tt) (tt, tt) (omega arith) (omega arith) .0 in omega arith
+
+pub left-out : (κs : Lfts 2) (a : Args sheet.write_answer.signature κs) → Fixes sheet.write_answer.ended (λ κs a x e. x ≡ 0) → ⊥
+left-out κs a f =
+    let same = f κs a 0 0 (tt, ([], tt)) (tt, (0 ∷ [], tt)) refl refl .1 in
+    let z : _≡_ {A = ℕ} 0 1 = ap (λ (w : Lasts sheet.write_answer.ended κs a). length (w .1 .0)) same in
+    omega arith
+
+-- ---- arith
+pub arith-root : Fixes arith.root.ended arith.root.Reads.Learnt
+arith-root κs a x y v w p q = (determined p q, refl)
+
+pub arith-fused : Fixes arith.fused.ended arith.fused.Reads.Learnt
+arith-fused κs a x y v w p q = (determined p q, refl)
+
+-- ---- face
+pub face-face-raise : Fixes face.face.raise.ended face.face.raise.Reads.Learnt
+face-face-raise κs a x y v w p q = (determined p q, refl)
+
+pub face-face-new-quad : Fixes face.face.new_quad.ended face.face.new_quad.Reads.Learnt
+face-face-new-quad κs a x y v w p q = (determined p q, refl)
+
+pub face-face-new-bounded-quad : Fixes face.face.new_bounded_quad.ended face.face.new_bounded_quad.Reads.Learnt
+face-face-new-bounded-quad κs a x y v w p q = (determined p q, refl)
+
+pub face-face-raise-six : Fixes face.face.raise_six.ended face.face.raise_six.Reads.Learnt
+face-face-raise-six κs a x y v w p q = (determined p q, refl)
+
+pub face-face-new-hexagon : Fixes face.face.new_hexagon.ended face.face.new_hexagon.Reads.Learnt
+face-face-new-hexagon κs a x y v w p q = (determined p q, refl)
+
+pub face-triangle-quad-triangle : Fixes face.triangle.quad_triangle.ended face.triangle.quad_triangle.Reads.Learnt
+face-triangle-quad-triangle κs a x y v w p q = (determined p q, refl)
+
+pub face-triangle-hexagon-triangle : Fixes face.triangle.hexagon_triangle.ended face.triangle.hexagon_triangle.Reads.Learnt
+face-triangle-hexagon-triangle κs a x y v w p q = (determined p q, refl)
+
+pub face-triangle-quad-counts : Fixes face.triangle.quad_counts.ended face.triangle.quad_counts.Reads.Learnt
+face-triangle-quad-counts κs a x y v w p q = (determined p q, refl)
+
+pub face-triangle-hexagon-counts : Fixes face.triangle.hexagon_counts.ended face.triangle.hexagon_counts.Reads.Learnt
+face-triangle-hexagon-counts κs a x y v w p q = (determined p q, refl)
+
+pub face-uv-mapping-default-options : Fixes face.uv_mapping.default_options.ended face.uv_mapping.default_options.Reads.Learnt
+face-uv-mapping-default-options κs a x y v w p q = (determined p q, refl)
+
+pub face-uv-mapping-alter-uv : Fixes face.uv_mapping.alter_uv.ended face.uv_mapping.alter_uv.Reads.Learnt
+face-uv-mapping-alter-uv κs a x y v w p q = (determined p q, refl)
+
+pub face-uv-mapping-alter-four : Fixes face.uv_mapping.alter_four.ended face.uv_mapping.alter_four.Reads.Learnt
+face-uv-mapping-alter-four κs a x y v w p q = (determined p q, refl)
+
+pub face-uv-mapping-alter-six : Fixes face.uv_mapping.alter_six.ended face.uv_mapping.alter_six.Reads.Learnt
+face-uv-mapping-alter-six κs a x y v w p q = (determined p q, refl)
+
+pub face-uv-mapping-alter-twelve : Fixes face.uv_mapping.alter_twelve.ended face.uv_mapping.alter_twelve.Reads.Learnt
+face-uv-mapping-alter-twelve κs a x y v w p q = (determined p q, refl)
+
+pub face-uv-mapping-wrap-uv : Fixes face.uv_mapping.wrap_uv.ended face.uv_mapping.wrap_uv.Reads.Learnt
+face-uv-mapping-wrap-uv κs a x y v w p q = (determined p q, refl)
+
+pub face-uv-mapping-wrap-six : Fixes face.uv_mapping.wrap_six.ended face.uv_mapping.wrap_six.Reads.Learnt
+face-uv-mapping-wrap-six κs a x y v w p q = (determined p q, refl)
+
+pub face-vec-add2 : Fixes face.vec.add2.ended face.vec.add2.Reads.Learnt
+face-vec-add2 κs a x y v w p q = (determined p q, refl)
+
+pub face-vec-sub2 : Fixes face.vec.sub2.ended face.vec.sub2.Reads.Learnt
+face-vec-sub2 κs a x y v w p q = (determined p q, refl)
+
+pub face-vec-scale2 : Fixes face.vec.scale2.ended face.vec.scale2.Reads.Learnt
+face-vec-scale2 κs a x y v w p q = (determined p q, refl)
+
+pub face-vec-add3 : Fixes face.vec.add3.ended face.vec.add3.Reads.Learnt
+face-vec-add3 κs a x y v w p q = (determined p q, refl)
+
+pub face-vec-sub3 : Fixes face.vec.sub3.ended face.vec.sub3.Reads.Learnt
+face-vec-sub3 κs a x y v w p q = (determined p q, refl)
+
+pub face-vec-scale3 : Fixes face.vec.scale3.ended face.vec.scale3.Reads.Learnt
+face-vec-scale3 κs a x y v w p q = (determined p q, refl)
+
+pub face-vec-squared2 : Fixes face.vec.squared2.ended face.vec.squared2.Reads.Learnt
+face-vec-squared2 κs a x y v w p q = (determined p q, refl)
+
+pub face-vec-squared3 : Fixes face.vec.squared3.ended face.vec.squared3.Reads.Learnt
+face-vec-squared3 κs a x y v w p q = (determined p q, refl)
+
+pub face-vec-len2 : Fixes face.vec.len2.ended face.vec.len2.Reads.Learnt
+face-vec-len2 κs a x y v w p q = (determined p q, refl)
+
+pub face-vec-len3 : Fixes face.vec.len3.ended face.vec.len3.Reads.Learnt
+face-vec-len3 κs a x y v w p q = (determined p q, refl)
+
+pub face-vec-one-over : Fixes face.vec.one_over.ended face.vec.one_over.Reads.Learnt
+face-vec-one-over κs a x y v w p q = (determined p q, refl)
+
+pub face-vec-normalize2 : Fixes face.vec.normalize2.ended face.vec.normalize2.Reads.Learnt
+face-vec-normalize2 κs a x y v w p q = (determined p q, refl)
+
+pub face-vec-normalize3 : Fixes face.vec.normalize3.ended face.vec.normalize3.Reads.Learnt
+face-vec-normalize3 κs a x y v w p q = (determined p q, refl)
+
+pub face-vec-centroid2-four : Fixes face.vec.centroid2_four.ended face.vec.centroid2_four.Reads.Learnt
+face-vec-centroid2-four κs a x y v w p q = (determined p q, refl)
+
+pub face-vec-centroid2-six : Fixes face.vec.centroid2_six.ended face.vec.centroid2_six.Reads.Learnt
+face-vec-centroid2-six κs a x y v w p q = (determined p q, refl)
+
+pub face-vec-centroid3-four : Fixes face.vec.centroid3_four.ended face.vec.centroid3_four.Reads.Learnt
+face-vec-centroid3-four κs a x y v w p q = (determined p q, refl)
+
+pub face-vec-centroid3-six : Fixes face.vec.centroid3_six.ended face.vec.centroid3_six.Reads.Learnt
+face-vec-centroid3-six κs a x y v w p q = (determined p q, refl)
+
+-- ---- patterns
+pub patterns-float : Fixes patterns.float.ended patterns.float.Reads.Learnt
+patterns-float κs a x y v w p q = (determined p q, refl)
+
+pub patterns-pattern : Fixes patterns.pattern.ended patterns.pattern.Reads.Learnt
+patterns-pattern κs a x y v w p q = (determined p q, refl)
+
+pub patterns-digit-value : Fixes patterns.digit_value.ended patterns.digit_value.Reads.Learnt
+patterns-digit-value κs a x y v w p q = (determined p q, refl)
+
+-- ---- insetting
+pub insetting-inset-quad : Fixes insetting.inset_quad.ended insetting.inset_quad.Reads.Learnt
+insetting-inset-quad κs a x y v w p q = (determined p q, refl)
+
+pub insetting-inset-hexagon : Fixes insetting.inset_hexagon.ended insetting.inset_hexagon.Reads.Learnt
+insetting-inset-hexagon κs a x y v w p q = (determined p q, refl)
+
+-- ---- answer
+pub answer-answer-number-of : Fixes answer.answer.number_of.ended answer.answer.number_of.Reads.Learnt
+answer-answer-number-of κs a x y v w p q = (determined p q, refl)
+
+pub answer-answer-counts-of : Fixes answer.answer.counts_of.ended answer.answer.counts_of.Reads.Learnt
+answer-answer-counts-of κs a x y v w p q = (determined p q, refl)
+
+pub answer-answer-limit : Fixes answer.answer.limit.ended answer.answer.limit.Reads.Learnt
+answer-answer-limit κs a x y v w p q = (determined p q, refl)
+
+pub answer-answer-name : Fixes answer.answer.name.ended answer.answer.name.Reads.Learnt
+answer-answer-name κs a x y v w p q = (determined p q, refl)
+
+pub answer-answer-room : Fixes answer.answer.room.ended answer.answer.room.Reads.Learnt
+answer-answer-room κs a x y v w p q = (determined p q, refl)
+
+pub answer-check-in-range : Fixes answer.check.in_range.ended answer.check.in_range.Reads.Learnt
+answer-check-in-range κs a x y v w p q = (determined p q, refl)
+
+pub answer-check-in-range2 : Fixes answer.check.in_range2.ended answer.check.in_range2.Reads.Learnt
+answer-check-in-range2 κs a x y v w p q = (determined p q, refl)
+
+pub answer-check-in-range3 : Fixes answer.check.in_range3.ended answer.check.in_range3.Reads.Learnt
+answer-check-in-range3 κs a x y v w p q = (determined p q, refl)
+
+pub answer-check-all-in-range : Fixes answer.check.all_in_range.ended answer.check.all_in_range.Reads.Learnt
+answer-check-all-in-range κs a x y v w p q = (determined p q, refl)
+
+pub answer-check-is-exactly : Fixes answer.check.is_exactly.ended answer.check.is_exactly.Reads.Learnt
+answer-check-is-exactly κs a x y v w p q = (determined p q, refl)
+
+pub answer-check-names-option : Fixes answer.check.names_option.ended answer.check.names_option.Reads.Learnt
+answer-check-names-option κs a x y v w p q = (determined p q, refl)
+
+pub answer-check-is-neighbour : Fixes answer.check.is_neighbour.ended answer.check.is_neighbour.Reads.Learnt
+answer-check-is-neighbour κs a x y v w p q = (determined p q, refl)
+
+pub answer-check-all-name-options : Fixes answer.check.all_name_options.ended answer.check.all_name_options.Reads.Learnt
+answer-check-all-name-options κs a x y v w p q = (determined p q, refl)
+
+pub answer-check-all-neighbours : Fixes answer.check.all_neighbours.ended answer.check.all_neighbours.Reads.Learnt
+answer-check-all-neighbours κs a x y v w p q = (determined p q, refl)
+
+pub answer-check-is-cell-count : Fixes answer.check.is_cell_count.ended answer.check.is_cell_count.Reads.Learnt
+answer-check-is-cell-count κs a x y v w p q = (determined p q, refl)
+
+-- ---- placement
+pub placement-options-entries : Fixes placement.options.entries.ended placement.options.entries.Reads.Learnt
+placement-options-entries κs a x y v w p q = (determined p q, refl)
+
+pub placement-options-is-table : Fixes placement.options.is_table.ended placement.options.is_table.Reads.Learnt
+placement-options-is-table κs a x y v w p q = (determined p q, refl)
+
+pub placement-options-option-at : Fixes placement.options.option_at.ended placement.options.option_at.Reads.Learnt
+placement-options-option-at κs a x y v w p q = (determined p q, refl)
+
+pub placement-options-choice-names : Fixes placement.options.choice_names.ended placement.options.choice_names.Reads.Learnt
+placement-options-choice-names κs a x y v w p q = (determined p q, refl)
+
+pub placement-options-option-for : Fixes placement.options.option_for.ended placement.options.option_for.Reads.Learnt
+placement-options-option-for κs a x y v w p q = (determined p q, refl)
+
+pub placement-placement-stand-by : Fixes placement.placement.stand_by.ended placement.placement.stand_by.Reads.Learnt
+placement-placement-stand-by κs a x y v w p q = (determined p q, refl)
+
+pub placement-placement-stand-point : Fixes placement.placement.stand_point.ended placement.placement.stand_point.Reads.Learnt
+placement-placement-stand-point κs a x y v w p q = (determined p q, refl)
+
+pub placement-placement-is-shift : Fixes placement.placement.is_shift.ended placement.placement.is_shift.Reads.Learnt
+placement-placement-is-shift κs a x y v w p q = (determined p q, refl)
+
+pub placement-placement-shift-point : Fixes placement.placement.shift_point.ended placement.placement.shift_point.Reads.Learnt
+placement-placement-shift-point κs a x y v w p q = (determined p q, refl)
+
+pub placement-placement-stand-normal : Fixes placement.placement.stand_normal.ended placement.placement.stand_normal.Reads.Learnt
+placement-placement-stand-normal κs a x y v w p q = (determined p q, refl)
+
+pub placement-placement-settle : Fixes placement.placement.settle.ended placement.placement.settle.Reads.Learnt
+placement-placement-settle κs a x y v w p q = (determined p q, refl)
+
+pub placement-placement-placement-in-range : Fixes placement.placement.placement_in_range.ended placement.placement.placement_in_range.Reads.Learnt
+placement-placement-placement-in-range κs a x y v w p q = (determined p q, refl)
+
+-- ---- buffers
+pub buffers-laying-has-room : Fixes buffers.laying.has_room.ended buffers.laying.has_room.Reads.Learnt
+buffers-laying-has-room κs a x y v w p q = (determined p q, refl)
+
+pub buffers-laying-lay-quad : Fixes buffers.laying.lay_quad.ended buffers.laying.lay_quad.Reads.Learnt
+buffers-laying-lay-quad κs a x y v w p q = let e = determined (p .1) (q .1) in (determined (p .0) (q .0), λ i. (tt, (tt, (tt, (tt, (e i .vertices, (e i .normals, (e i .uvs, (e i .indices, tt)))))))))
+
+pub buffers-laying-lay-wall : Fixes buffers.laying.lay_wall.ended buffers.laying.lay_wall.Reads.Learnt
+buffers-laying-lay-wall κs a x y v w p q = let e = determined p q in (refl, λ i. (tt, (tt, (tt, (tt, (e i .vertices, (e i .normals, (e i .uvs, (e i .indices, tt)))))))))
+
+pub buffers-laying-lay-hexagon : Fixes buffers.laying.lay_hexagon.ended buffers.laying.lay_hexagon.Reads.Learnt
+buffers-laying-lay-hexagon κs a x y v w p q = let e = determined (p .1) (q .1) in (determined (p .0) (q .0), λ i. (tt, (tt, (tt, (tt, (e i .vertices, (e i .normals, (e i .uvs, (e i .indices, tt)))))))))
+
+-- ---- mesh
+pub mesh-stored-holds-counts : Fixes mesh.stored.holds_counts.ended mesh.stored.holds_counts.Reads.Learnt
+mesh-stored-holds-counts κs a x y v w p q = (determined p q, refl)
+
+pub mesh-stored-scale : Fixes mesh.stored.scale.ended mesh.stored.scale.Reads.Learnt
+mesh-stored-scale κs a x y v w p q = let e = determined (p .1) (q .1) in (determined (p .0) (q .0), λ i. (tt, (tt, (e i .vertices, (tt, (tt, (tt, tt)))))))
+
+pub mesh-stored-offset : Fixes mesh.stored.offset.ended mesh.stored.offset.Reads.Learnt
+mesh-stored-offset κs a x y v w p q = let e = determined (p .1) (q .1) in (determined (p .0) (q .0), λ i. (tt, (tt, (e i .vertices, (tt, (tt, (tt, tt)))))))
+
+pub mesh-stored-texture-scale : Fixes mesh.stored.texture_scale.ended mesh.stored.texture_scale.Reads.Learnt
+mesh-stored-texture-scale κs a x y v w p q = let e = determined (p .1) (q .1) in (determined (p .0) (q .0), λ i. (tt, (tt, (tt, (tt, (e i .uvs, (tt, tt)))))))
+
+pub mesh-stored-centroid : Fixes mesh.stored.centroid.ended mesh.stored.centroid.Reads.Learnt
+mesh-stored-centroid κs a x y v w p q = (determined p q, refl)
+
+pub mesh-stored-uv-centroid : Fixes mesh.stored.uv_centroid.ended mesh.stored.uv_centroid.Reads.Learnt
+mesh-stored-uv-centroid κs a x y v w p q = (determined p q, refl)
+
+-- ---- plane_builder
+pub plane-builder-plan : Fixes plane_builder.plan.ended plane_builder.plan.Reads.Learnt
+plane-builder-plan κs a x y v w p q = (determined p q, refl)
+
+pub plane-builder-build : Fixes plane_builder.build.ended plane_builder.build.Reads.Learnt
+plane-builder-build κs a x y v w p q = let e = determined (p .1) (q .1) in (determined (p .0) (q .0), λ i. (tt, (tt, (tt, (tt, (e i .vertices, (e i .normals, (e i .uvs, (e i .indices, tt)))))))))
+
+pub plane-builder-face : Fixes plane_builder.face.ended plane_builder.face.Reads.Learnt
+plane-builder-face κs a x y v w p q = let e = determined (p .1) (q .1) in (determined (p .0) (q .0), λ i. (tt, (tt, (tt, (tt, (tt, (e i .vertices, (e i .normals, (e i .uvs, (e i .indices, tt))))))))))
+
+pub plane-builder-cap-pair-at : Fixes plane_builder.cap.pair_at.ended plane_builder.cap.pair_at.Reads.Learnt
+plane-builder-cap-pair-at κs a x y v w p q = (determined p q, refl)
+
+pub plane-builder-cap-corners-of : Fixes plane_builder.cap.corners_of.ended plane_builder.cap.corners_of.Reads.Learnt
+plane-builder-cap-corners-of κs a x y v w p q = (determined p q, refl)
+
+pub plane-builder-cap-cap-hexagon : Fixes plane_builder.cap.cap_hexagon.ended plane_builder.cap.cap_hexagon.Reads.Learnt
+plane-builder-cap-cap-hexagon κs a x y v w p q = (determined p q, refl)
+
+pub plane-builder-cap-put-cap : Fixes plane_builder.cap.put_cap.ended plane_builder.cap.put_cap.Reads.Learnt
+plane-builder-cap-put-cap κs a x y v w p q = let e = determined p q in (refl, λ i. (tt, (tt, (tt, (tt, (e i .vertices, (e i .normals, (e i .uvs, (e i .indices, tt)))))))))
+
+-- ---- cheap_column
+pub cheap-column-plan : Fixes cheap_column.plan.ended cheap_column.plan.Reads.Learnt
+cheap-column-plan κs a x y v w p q = (determined p q, refl)
+
+pub cheap-column-build : Fixes cheap_column.build.ended cheap_column.build.Reads.Learnt
+cheap-column-build κs a x y v w p q = let e = determined (p .1) (q .1) in (determined (p .0) (q .0), λ i. (tt, (tt, (e i .vertices, (e i .normals, (e i .uvs, (e i .indices, tt)))))))
+
+pub cheap-column-face : Fixes cheap_column.face.ended cheap_column.face.Reads.Learnt
+cheap-column-face κs a x y v w p q = let e = determined (p .1) (q .1) in (determined (p .0) (q .0), λ i. (tt, (tt, (tt, (e i .vertices, (e i .normals, (e i .uvs, (e i .indices, tt))))))))
+
+-- ---- merge
+pub merge-merge : Fixes merge.merge.ended merge.merge.Reads.Learnt
+merge-merge κs a x y v w p q = let e = determined (p .1) (q .1) in (determined (p .0) (q .0), λ i. (tt, (tt, (tt, (tt, (tt, (tt, (e i .vertices, (e i .normals, (e i .uvs, (e i .indices, tt)))))))))))
+
+-- ---- column
+pub column-parts-of : Fixes column.parts_of.ended column.parts_of.Reads.Learnt
+column-parts-of κs a x y v w p q = (determined p q, refl)
+
+pub column-delta-of : Fixes column.delta_of.ended column.delta_of.Reads.Learnt
+column-delta-of κs a x y v w p q = (determined p q, refl)
+
+pub column-side-counts : Fixes column.side_counts.ended column.side_counts.Reads.Learnt
+column-side-counts κs a x y v w p q = (determined p q, refl)
+
+pub column-cap-counts : Fixes column.cap_counts.ended column.cap_counts.Reads.Learnt
+column-cap-counts κs a x y v w p q = (determined p q, refl)
+
+pub column-side-option : Fixes column.side_option.ended column.side_option.Reads.Learnt
+column-side-option κs a x y v w p q = (determined p q, refl)
+
+pub column-plan : Fixes column.plan.ended column.plan.Reads.Learnt
+column-plan κs a x y v w p q = (determined p q, refl)
+
+pub column-caps-top-stand : Fixes column.caps.top_stand.ended column.caps.top_stand.Reads.Learnt
+column-caps-top-stand κs a x y v w p q = (determined p q, refl)
+
+pub column-caps-bottom-stand : Fixes column.caps.bottom_stand.ended column.caps.bottom_stand.Reads.Learnt
+column-caps-bottom-stand κs a x y v w p q = (determined p q, refl)
+
+pub column-names-side-faces : Fixes column.names.side_faces.ended column.names.side_faces.Reads.Learnt
+column-names-side-faces κs a x y v w p q = (determined p q, refl)
+
+pub column-names-face-count : Fixes column.names.face_count.ended column.names.face_count.Reads.Learnt
+column-names-face-count κs a x y v w p q = (determined p q, refl)
+
+pub column-names-name-of : Fixes column.names.name_of.ended column.names.name_of.Reads.Learnt
+column-names-name-of κs a x y v w p q = (determined p q, refl)
+
+pub column-names-piece-of : Fixes column.names.piece_of.ended column.names.piece_of.Reads.Learnt
+column-names-piece-of κs a x y v w p q = (determined p q, refl)
+
+pub column-names-start-of : Fixes column.names.start_of.ended column.names.start_of.Reads.Learnt
+column-names-start-of κs a x y v w p q = (determined p q, refl)
+
+pub column-wall-wall-of : Fixes column.wall.wall_of.ended column.wall.wall_of.Reads.Learnt
+column-wall-wall-of κs a x y v w p q = (determined p q, refl)
+
+pub column-wall-part-at : Fixes column.wall.part_at.ended column.wall.part_at.Reads.Learnt
+column-wall-part-at κs a x y v w p q = (determined p q, refl)
+
+-- ---- boundary
+pub boundary-from-c-vec2-of : Fixes boundary.from_c.vec2_of.ended boundary.from_c.vec2_of.Reads.Learnt
+boundary-from-c-vec2-of κs a x y v w p q = (determined p q, refl)
+
+pub boundary-from-c-vec3-of : Fixes boundary.from_c.vec3_of.ended boundary.from_c.vec3_of.Reads.Learnt
+boundary-from-c-vec3-of κs a x y v w p q = (determined p q, refl)
+
+pub boundary-from-c-counts-in : Fixes boundary.from_c.counts_in.ended boundary.from_c.counts_in.Reads.Learnt
+boundary-from-c-counts-in κs a x y v w p q = (determined p q, refl)
+
+pub boundary-from-c-uv-options-of : Fixes boundary.from_c.uv_options_of.ended boundary.from_c.uv_options_of.Reads.Learnt
+boundary-from-c-uv-options-of κs a x y v w p q = (determined p q, refl)
+
+pub boundary-jobs-plane-of : Fixes boundary.jobs.plane_of.ended boundary.jobs.plane_of.Reads.Learnt
+boundary-jobs-plane-of κs a x y v w p q = (determined p q, refl)
+
+pub boundary-jobs-column-of : Fixes boundary.jobs.column_of.ended boundary.jobs.column_of.Reads.Learnt
+boundary-jobs-column-of κs a x y v w p q = (determined p q, refl)
+
+pub boundary-jobs-cheap-column-of : Fixes boundary.jobs.cheap_column_of.ended boundary.jobs.cheap_column_of.Reads.Learnt
+boundary-jobs-cheap-column-of κs a x y v w p q = (determined p q, refl)
+
+pub boundary-to-c-answer-to-c : Fixes boundary.to_c.answer_to_c.ended boundary.to_c.answer_to_c.Reads.Learnt
+boundary-to-c-answer-to-c κs a x y v w p q = (determined p q, refl)
+
+pub boundary-to-c-point-to-c : Fixes boundary.to_c.point_to_c.ended boundary.to_c.point_to_c.Reads.Learnt
+boundary-to-c-point-to-c κs a x y v w p q = (determined p q, refl)
+
+pub boundary-to-c-centroid-to-c : Fixes boundary.to_c.centroid_to_c.ended boundary.to_c.centroid_to_c.Reads.Learnt
+boundary-to-c-centroid-to-c κs a x y v w p q = (determined p q, refl)
+
+pub boundary-to-c-uv-centroid-to-c : Fixes boundary.to_c.uv_centroid_to_c.ended boundary.to_c.uv_centroid_to_c.Reads.Learnt
+boundary-to-c-uv-centroid-to-c κs a x y v w p q = (determined p q, refl)
+
+-- ---- column_builder
+pub column-builder-plan : Fixes column_builder.plan.ended column_builder.plan.Reads.Learnt
+column-builder-plan κs a x y v w p q = (determined p q, refl)
+
+pub column-builder-build : Fixes column_builder.build.ended column_builder.build.Reads.Learnt
+column-builder-build κs a x y v w p q = let e = determined (p .1) (q .1) in (determined (p .0) (q .0), λ i. (tt, (tt, (tt, (tt, (tt, (e i .vertices, (e i .normals, (e i .uvs, (e i .indices, tt))))))))))
+
+pub column-builder-face : Fixes column_builder.face.ended column_builder.face.Reads.Learnt
+column-builder-face κs a x y v w p q = let e = determined (p .1) (q .1) in (determined (p .0) (q .0), λ i. (tt, (tt, (tt, (tt, (tt, (tt, (e i .vertices, (e i .normals, (e i .uvs, (e i .indices, tt)))))))))))
+
+-- ---- sheet
+pub sheet-write-answer : Fixes sheet.write_answer.ended sheet.write_answer.Reads.Learnt
+sheet-write-answer κs a x y v w p q = let e = determined (p .buffer) (q .buffer) in (determined (p .count) (q .count), λ i. (tt, (e i, tt)))
+
+-- ---- exports
+pub exports-cheap-hosirekar-cheap-column-plan : Fixes exports.cheap.hosirekar_cheap_column_plan.ended exports.cheap.hosirekar_cheap_column_plan.Reads.Learnt
+exports-cheap-hosirekar-cheap-column-plan κs a x y v w p q = (determined p q, refl)
+
+pub exports-cheap-hosirekar-cheap-column-build : Fixes exports.cheap.hosirekar_cheap_column_build.ended exports.cheap.hosirekar_cheap_column_build.Reads.Learnt
+exports-cheap-hosirekar-cheap-column-build κs a x y v w p q = let e = determined (p .1) (q .1) in (determined (p .0) (q .0), λ i. (tt, (tt, (e i .vertices, (e i .normals, (e i .uvs, (e i .indices, tt)))))))
+
+pub exports-cheap-hosirekar-cheap-column-face : Fixes exports.cheap.hosirekar_cheap_column_face.ended exports.cheap.hosirekar_cheap_column_face.Reads.Learnt
+exports-cheap-hosirekar-cheap-column-face κs a x y v w p q = let e = determined (p .1) (q .1) in (determined (p .0) (q .0), λ i. (tt, (tt, (tt, (e i .vertices, (e i .normals, (e i .uvs, (e i .indices, tt))))))))
+
+pub exports-columns-hosirekar-column-plan : Fixes exports.columns.hosirekar_column_plan.ended exports.columns.hosirekar_column_plan.Reads.Learnt
+exports-columns-hosirekar-column-plan κs a x y v w p q = (determined p q, refl)
+
+pub exports-columns-hosirekar-column-build : Fixes exports.columns.hosirekar_column_build.ended exports.columns.hosirekar_column_build.Reads.Learnt
+exports-columns-hosirekar-column-build κs a x y v w p q = let e = determined (p .1) (q .1) in (determined (p .0) (q .0), λ i. (tt, (tt, (tt, (tt, (tt, (e i .vertices, (e i .normals, (e i .uvs, (e i .indices, tt))))))))))
+
+pub exports-columns-hosirekar-column-face : Fixes exports.columns.hosirekar_column_face.ended exports.columns.hosirekar_column_face.Reads.Learnt
+exports-columns-hosirekar-column-face κs a x y v w p q = let e = determined (p .1) (q .1) in (determined (p .0) (q .0), λ i. (tt, (tt, (tt, (tt, (tt, (tt, (e i .vertices, (e i .normals, (e i .uvs, (e i .indices, tt)))))))))))
+
+pub exports-merging-hosirekar-merge : Fixes exports.merging.hosirekar_merge.ended exports.merging.hosirekar_merge.Reads.Learnt
+exports-merging-hosirekar-merge κs a x y v w p q = let e = determined (p .1) (q .1) in (determined (p .0) (q .0), λ i. (tt, (tt, (tt, (tt, (tt, (tt, (e i .vertices, (e i .normals, (e i .uvs, (e i .indices, tt)))))))))))
+
+pub exports-numbers-hosirekar-root : Fixes exports.numbers.hosirekar_root.ended exports.numbers.hosirekar_root.Reads.Learnt
+exports-numbers-hosirekar-root κs a x y v w p q = (determined p q, refl)
+
+pub exports-numbers-hosirekar-fused : Fixes exports.numbers.hosirekar_fused.ended exports.numbers.hosirekar_fused.Reads.Learnt
+exports-numbers-hosirekar-fused κs a x y v w p q = (determined p q, refl)
+
+pub exports-plane-hosirekar-plane-plan : Fixes exports.plane.hosirekar_plane_plan.ended exports.plane.hosirekar_plane_plan.Reads.Learnt
+exports-plane-hosirekar-plane-plan κs a x y v w p q = (determined p q, refl)
+
+pub exports-plane-hosirekar-plane-build : Fixes exports.plane.hosirekar_plane_build.ended exports.plane.hosirekar_plane_build.Reads.Learnt
+exports-plane-hosirekar-plane-build κs a x y v w p q = let e = determined (p .1) (q .1) in (determined (p .0) (q .0), λ i. (tt, (tt, (tt, (tt, (e i .vertices, (e i .normals, (e i .uvs, (e i .indices, tt)))))))))
+
+pub exports-plane-hosirekar-plane-face : Fixes exports.plane.hosirekar_plane_face.ended exports.plane.hosirekar_plane_face.Reads.Learnt
+exports-plane-hosirekar-plane-face κs a x y v w p q = let e = determined (p .1) (q .1) in (determined (p .0) (q .0), λ i. (tt, (tt, (tt, (tt, (tt, (e i .vertices, (e i .normals, (e i .uvs, (e i .indices, tt))))))))))
+
+pub exports-stored-hosirekar-scale : Fixes exports.stored.hosirekar_scale.ended exports.stored.hosirekar_scale.Reads.Learnt
+exports-stored-hosirekar-scale κs a x y v w p q = let e = determined (p .1) (q .1) in (determined (p .0) (q .0), λ i. (tt, (tt, (e i .vertices, (tt, (tt, (tt, tt)))))))
+
+pub exports-stored-hosirekar-offset : Fixes exports.stored.hosirekar_offset.ended exports.stored.hosirekar_offset.Reads.Learnt
+exports-stored-hosirekar-offset κs a x y v w p q = let e = determined (p .1) (q .1) in (determined (p .0) (q .0), λ i. (tt, (tt, (e i .vertices, (tt, (tt, (tt, tt)))))))
+
+pub exports-stored-hosirekar-texture-scale : Fixes exports.stored.hosirekar_texture_scale.ended exports.stored.hosirekar_texture_scale.Reads.Learnt
+exports-stored-hosirekar-texture-scale κs a x y v w p q = let e = determined (p .1) (q .1) in (determined (p .0) (q .0), λ i. (tt, (tt, (tt, (tt, (e i .uvs, (tt, tt)))))))
+
+pub exports-stored-hosirekar-centroid : Fixes exports.stored.hosirekar_centroid.ended exports.stored.hosirekar_centroid.Reads.Learnt
+exports-stored-hosirekar-centroid κs a x y v w p q = (determined p q, refl)
+
+pub exports-stored-hosirekar-uv-centroid : Fixes exports.stored.hosirekar_uv_centroid.ended exports.stored.hosirekar_uv_centroid.Reads.Learnt
+exports-stored-hosirekar-uv-centroid κs a x y v w p q = (determined p q, refl)
+
+pub exports-texture-hosirekar-alter-uv : Fixes exports.texture.hosirekar_alter_uv.ended exports.texture.hosirekar_alter_uv.Reads.Learnt
+exports-texture-hosirekar-alter-uv κs a x y v w p q = (determined p q, refl)
+
+pub exports-texture-hosirekar-wrap-uv : Fixes exports.texture.hosirekar_wrap_uv.ended exports.texture.hosirekar_wrap_uv.Reads.Learnt
+exports-texture-hosirekar-wrap-uv κs a x y v w p q = (determined p q, refl)

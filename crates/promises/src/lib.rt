@@ -1,0 +1,1 @@
+// What holds of the promise of every public function of every crate: theorems, no code.
