@@ -225,6 +225,9 @@ placement-options-choice-names κs a x y v w p q = (determined p q, refl)
 pub placement-options-option-for : Fixes placement.options.option_for.ended placement.options.option_for.Reads.Learnt
 placement-options-option-for κs a x y v w p q = (determined p q, refl)
 
+pub placement-placement-stand-from : Fixes placement.placement.stand_from.ended placement.placement.stand_from.Reads.Learnt
+placement-placement-stand-from κs a x y v w p q = (determined p q, refl)
+
 pub placement-placement-stand-by : Fixes placement.placement.stand_by.ended placement.placement.stand_by.Reads.Learnt
 placement-placement-stand-by κs a x y v w p q = (determined p q, refl)
 
