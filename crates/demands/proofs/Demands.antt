@@ -33,7 +33,9 @@ use Rattle.plane_builder.specs.Plane as plane
 use Rattle.plane_builder.proofs.Laws as planeLaws
 use Rattle.column.specs.Column as column
 use Rattle.column_builder.proofs.Whole as columnLaws
-use Rattle.demands.specs.Job.{Job, OfCheapColumn, OfPlane, OfColumn, faces, planned, wholeAnswer, faceAnswer, built, faced}
+use Rattle.heightmap.specs.Tests as mapTests
+use Rattle.heightmap.proofs.Faces as mapLaws
+use Rattle.demands.specs.Job.{Job, OfCheapColumn, OfPlane, OfColumn, OfMap, faces, planned, wholeAnswer, faceAnswer, built, faced}
 use Rattle.demands.specs.Calls.{Call, Build, Face, Merge, Scale, Offset, TextureScale, Centroid, UvCentroid, answerOf, leaves, Lengths, first, before, leavesFirst, InRun, OwnFace, Other, run, OthersRefused, Among}
 
 -- ---- each kind is its own tests and its faces: what its functions promise is what `Jobs` says of those
@@ -41,37 +43,44 @@ abbrev checked : Job → Answer → Answer
 checked (OfCheapColumn job l) = cheap.checked job l
 checked (OfPlane job ls) = plane.checked job ls
 checked (OfColumn job ls) = column.checked job ls
+checked (OfMap job ls) = mapTests.checked job ls
 
 planned-is : (job : Job) → planned job ≡ plannedOf (checked job) (faces job)
 planned-is (OfCheapColumn job l) = refl
 planned-is (OfPlane job ls) = refl
 planned-is (OfColumn job ls) = refl
+planned-is (OfMap job ls) = refl
 
 whole-is : (job : Job) (B : Buffers) → wholeAnswer job B ≡ wholeOf (checked job) (faces job) B
 whole-is (OfCheapColumn job l) B = refl
 whole-is (OfPlane job ls) B = refl
 whole-is (OfColumn job ls) B = refl
+whole-is (OfMap job ls) B = refl
 
 face-is : (job : Job) (k : ℕ) (B : Buffers) → faceAnswer job k B ≡ oneOf (checked job) (faces job) k B
 face-is (OfCheapColumn job l) k B = refl
 face-is (OfPlane job ls) k B = refl
 face-is (OfColumn job ls) k B = refl
+face-is (OfMap job ls) k B = refl
 
 built-is : (job : Job) (B : Buffers) → built job B ≡ builtOf (checked job) (faces job) B
 built-is (OfCheapColumn job l) B = refl
 built-is (OfPlane job ls) B = refl
 built-is (OfColumn job ls) B = refl
+built-is (OfMap job ls) B = refl
 
 faced-is : (job : Job) (k : ℕ) (B : Buffers) → faced job k B ≡ facedOf (checked job) (faces job) k B
 faced-is (OfCheapColumn job l) k B = refl
 faced-is (OfPlane job ls) k B = refl
 faced-is (OfColumn job ls) k B = refl
+faced-is (OfMap job ls) k B = refl
 
 -- its own tests change no answer
 passes : (job : Job) (a : Answer) (d : Counts) → checked job a ≡ Done d → a ≡ Done d
 passes (OfCheapColumn job l) = cheapLaws.passes job l
 passes (OfPlane job ls) = planeLaws.passes job ls
 passes (OfColumn job ls) = columnLaws.passes job ls
+passes (OfMap job ls) = mapLaws.passes job ls
 
 -- ---- R10: a refused call leaves every buffer as it was
 module _ (job : Job) (B : Buffers) (e : Refusal) where
@@ -93,6 +102,7 @@ all-few : (job : Job) (k : ℕ) → k < length (faces job) → FewIndices (faceA
 all-few (OfCheapColumn job l) = alone FewIndices _ (cheapLaws.column-few job l)
 all-few (OfPlane job ls) = alone FewIndices _ (planeLaws.plane-few job ls)
 all-few (OfColumn job ls) = columnLaws.column-few job ls
+all-few (OfMap job ls) = mapLaws.map-few job ls
 
 pub at-most : (job : Job) (c : Counts) → planned job ≡ Done c → (c .vertices .0 ≤ 65536) × (c .indices .0 ≤ 262144)
 at-most job c e =
@@ -273,6 +283,7 @@ all-own : (job : Job) → AllOwn (faces job)
 all-own (OfCheapColumn job l) = alone Own _ (cheapLaws.column-own job l)
 all-own (OfPlane job ls) = alone Own _ (planeLaws.plane-own job ls)
 all-own (OfColumn job ls) = columnLaws.column-own job ls
+all-own (OfMap job ls) = mapLaws.map-own job ls
 
 pub triangles-own : (job : Job) (B : Buffers) (c : Counts) → wholeAnswer job B ≡ Done c → (i : ℕ) → 3 * i < c .indices .0 → InFace (faces job) (built job B .indices) i
 triangles-own job B c e i h =

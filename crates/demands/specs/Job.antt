@@ -12,41 +12,52 @@ use Rattle.plane_builder.specs.Plane as plane
 use Rattle.column.specs.declared.Column.{Column}
 use Rattle.column.specs.Column as column
 use Rattle.column_builder.specs.Calls as columnCalls
+use Rattle.heightmap.specs.declared.HeightMap.{HeightMap}
+use Rattle.heightmap.specs.HeightMap as heightmap
+use Rattle.heightmap.specs.Tests as mapTests
+use Rattle.heightmap.specs.Calls as mapCalls
 
 -- a job with the lists that are lent to it
 pub data Job : Type 0 where
   OfCheapColumn : CheapColumn → List Float → Job
   OfPlane : Plane → plane.Lists → Job
   OfColumn : Column → column.Lists → Job
+  OfMap : HeightMap → heightmap.Lists → Job
 
 -- R15, R16: its faces, in their order
 abbrev pub faces : Job → List Mesh
 faces (OfCheapColumn job l) = cheap.cheapFaces job l
 faces (OfPlane job ls) = plane.planeFaces job ls
 faces (OfColumn job ls) = column.columnFaces job ls
+faces (OfMap job ls) = heightmap.mapFaces job ls
 
 -- ---- what the three calls of each kind promise
 abbrev pub planned : Job → Answer
 planned (OfCheapColumn job l) = cheap.planned job l
 planned (OfPlane job ls) = plane.planned job ls
 planned (OfColumn job ls) = column.planned job ls
+planned (OfMap job ls) = mapTests.planned job ls
 
 abbrev pub wholeAnswer : Job → Buffers → Answer
 wholeAnswer (OfCheapColumn job l) = cheap.wholeAnswer job l
 wholeAnswer (OfPlane job ls) = plane.wholeAnswer job ls
 wholeAnswer (OfColumn job ls) = columnCalls.wholeAnswer job ls
+wholeAnswer (OfMap job ls) = mapCalls.wholeAnswer job ls
 
 abbrev pub faceAnswer : Job → ℕ → Buffers → Answer
 faceAnswer (OfCheapColumn job l) = cheap.faceAnswer job l
 faceAnswer (OfPlane job ls) = plane.faceAnswer job ls
 faceAnswer (OfColumn job ls) = columnCalls.faceAnswer job ls
+faceAnswer (OfMap job ls) = mapCalls.faceAnswer job ls
 
 abbrev pub built : Job → Buffers → Buffers
 built (OfCheapColumn job l) = cheap.built job l
 built (OfPlane job ls) = plane.built job ls
 built (OfColumn job ls) = columnCalls.built job ls
+built (OfMap job ls) = mapCalls.built job ls
 
 abbrev pub faced : Job → ℕ → Buffers → Buffers
 faced (OfCheapColumn job l) = cheap.faced job l
 faced (OfPlane job ls) = plane.faced job ls
 faced (OfColumn job ls) = columnCalls.faced job ls
+faced (OfMap job ls) = mapCalls.faced job ls

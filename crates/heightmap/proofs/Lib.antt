@@ -1,3 +1,4 @@
 pub mod Counts
+pub mod Faces
 pub mod Numbering
 pub mod Worked
