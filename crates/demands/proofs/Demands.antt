@@ -193,7 +193,7 @@ nothing-past job B c e =
     (after-done (wholeOf (checked job) (faces job) B) B (layAll (faces job) none B) (sym (whole-is job B) ∙ e) ∙ sym (built-is job B))
     (subst (λ (d : Counts). AlikeOutside none d B (layAll (faces job) none B)) n (all-outside (faces job) none B))
 
--- ---- R10: what holds of every call that is lent four buffers: its answer goes by their lengths, and refused it leaves them
+-- ---- R10: what holds of every such call: its answer goes by the lengths of the four buffers, and refused it leaves them
 same-answer : (c : Call) (B C : Buffers) → SameLengths B C → answerOf c C ≡ answerOf c B
 same-answer (Build job) B C s = whole-is job C ∙ rw (s .vertices, s .normals, s .uvs, s .indices) (sym (whole-is job B))
 same-answer (Face job k) B C s = face-is job k C ∙ rw (s .vertices, s .normals, s .uvs, s .indices) (sym (face-is job k B))

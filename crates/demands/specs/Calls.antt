@@ -1,4 +1,5 @@
--- Every call that is lent four buffers, and runs of them on the same buffers; R10 and X5 are rows of docs/TRACE.md. Definitions only.
+-- Builds, face calls, merges and stored-mesh calls that are lent four buffers, and runs of them on the same buffers; R10
+-- and X5 are rows of docs/TRACE.md. Definitions only.
 use mathlib.Core.Path.{_≡_}
 use mathlib.Core.Logic.{_⊎_}
 use mathlib.Core.List.{List, [], _∷_, _++_}
@@ -85,7 +86,8 @@ pub record IsRefused (a : Answer) : Type 0 where
   pub why : Refusal
   pub so : a ≡ Refused why
 
--- the calls between are refused in such buffers
+-- the calls between are refused in the buffers that the run begins with; an answer goes by their lengths, which no call
+-- of the run changes
 abbrev pub RefusedThere : Buffers → InRun → Type 0
 RefusedThere B (OwnFace k) = Unit {0}
 RefusedThere B (Other n c) = IsRefused (answerOf c (first n B))

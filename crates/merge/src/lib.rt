@@ -87,15 +87,17 @@ fn copy(buffer: &mut [f32], at: usize, numbers: &[f32])
 }
 
 // Vertex numbers, each after b others.
-fn copy_after(buffer: &mut [u16], at: usize, numbers: &[u16], b: usize)
-    requires { ⌜ at + length (now numbers) ≤ length (now buffer) ⌝ }
-    requires { ⌜ ((k : ℕ) → k < length (now numbers) → b + getD (now numbers) k 0 < 65536) ⌝ }
-    ensures { λ _. ⌜ now (buffer .exit) ≡ laid (now (buffer .entry)) at (map (λ x. b + x) (now (numbers .entry))) ⌝ }
+fn copy_after(buffer: &mut [u16], at: IndexPlace, numbers: &[u16], b: VertexNumber)
+    requires { ⌜ at .0 + length (now numbers) ≤ length (now buffer) ⌝ }
+    requires { ⌜ ((k : ℕ) → k < length (now numbers) → b .0 + getD (now numbers) k 0 < 65536) ⌝ }
+    ensures { λ _. ⌜ now (buffer .exit) ≡ laid (now (buffer .entry)) (at .0) (map (λ x. b .0 + x) (now (numbers .entry))) ⌝ }
 {
+    let from = at.0;
+    let base = b.0;
     let mut k = 0;
     while k < numbers.len() {
         let x = numbers[k] as usize;
-        buffer[at + k] = (b + x) as u16;
+        buffer[from + k] = (base + x) as u16;
         k += 1;
     }
 }
@@ -123,7 +125,7 @@ fn append(
     copy(vertices, 3 * b, &svertices[..points]);
     copy(normals, 3 * b, &snormals[..points]);
     copy(uvs, 2 * b, &suvs[..pairs]);
-    copy_after(indices, target.indices.0, &sindices[..n], b);
+    copy_after(indices, target.indices, &sindices[..n], target.vertices);
 }
 
 // Appends a source mesh to a target: its vertices, normals and uvs, and its indices after the

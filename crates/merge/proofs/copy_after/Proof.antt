@@ -10,10 +10,10 @@ use Rattle.merge.proofs.copy_after.Statement.{statement}
 use Rattle.merge.proofs.copy_after.Tie as tie
 
 abbrev Inv : tie.InvT-loop
-Inv buffer₀ at numbers b k₀ buffer k = Copied (λ x. b + x) numbers 0 buffer₀ at k buffer
+Inv buffer₀ numbers from base k₀ buffer k = Copied (λ x. base + x) numbers 0 buffer₀ from k buffer
 
 abbrev μ : tie.MeasureT-loop
-μ buffer₀ at numbers b k₀ buffer k = length numbers - k
+μ buffer₀ numbers from base k₀ buffer k = length numbers - k
 
 pub copy-after-spec : {M : Type 1} → statement M
 copy-after-spec =
@@ -32,6 +32,6 @@ copy-after-spec =
     (λ c. search needs)
     (λ c. search needs)
     (λ c. search needs)
-    (λ c. copied-more (λ x. c .before .before .before .args .b + x) (now (c .before .before .before .args .numbers)) 0 _ _ _ _ (c .before .before .loop .inv) (c .before .loop-test .taken))
+    (λ c. copied-more (λ x. c .before .before .before .args .b .0 + x) (now (c .before .before .before .args .numbers)) 0 _ _ _ _ (c .before .before .loop .inv) (c .before .loop-test .taken))
     (λ c. search needs)
-    (λ c. copied-all (λ x. c .before .before .args .b + x) (now (c .before .before .args .numbers)) 0 _ _ _ _ (c .before .loop .inv) (c .loop-test .left)))
+    (λ c. copied-all (λ x. c .before .before .args .b .0 + x) (now (c .before .before .args .numbers)) 0 _ _ _ _ (c .before .loop .inv) (c .loop-test .left)))
