@@ -2,7 +2,7 @@
 //! zero, which the proofs do not allow for. Numbers are drawn among the patterns of magnitude at
 //! most 1,000,000; the counts are in docs/DIFFERENCES.md.
 
-use hosirekar_sys::{CVec2, hosirekar_fused, hosirekar_wrap_uv};
+use hosirekar_sys::{hosirekar_fused, hosirekar_wrap_uv, CVec2};
 
 const DRAWN: usize = 1_000_000;
 const MILLION: u32 = 0x4974_2400;
@@ -38,7 +38,11 @@ impl Draw {
 
 /// The bits of a result, all NaNs alike.
 fn bits(x: f32) -> u32 {
-    if x.is_nan() { 0x7fc0_0000 } else { x.to_bits() }
+    if x.is_nan() {
+        0x7fc0_0000
+    } else {
+        x.to_bits()
+    }
 }
 
 fn results(draw: &mut Draw) -> Vec<[u32; 3]> {
@@ -56,7 +60,15 @@ fn main() {
     let usual = control(0x1f80 | FLUSHED);
     let flushed = results(&mut Draw(1));
     control(usual);
-    let fused = right.iter().zip(&flushed).filter(|(r, f)| r[0] != f[0]).count();
-    let wrapped = right.iter().zip(&flushed).filter(|(r, f)| r[1..] != f[1..]).count();
+    let fused = right
+        .iter()
+        .zip(&flushed)
+        .filter(|(r, f)| r[0] != f[0])
+        .count();
+    let wrapped = right
+        .iter()
+        .zip(&flushed)
+        .filter(|(r, f)| r[1..] != f[1..])
+        .count();
     println!("of {DRAWN} each: fused {fused} differ, wrap_uv {wrapped} differ");
 }
