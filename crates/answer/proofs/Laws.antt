@@ -35,6 +35,26 @@ module _ {A : Type 0} (ok : A → Bool) (xs : List A) (z : A) where
   pub passed-all : (i : ℕ) → Passed i → length xs ≤ i → true ≡ every ok xs
   passed-all i p h = rw (drop-of-length-le xs h) at (p .1)
 
+-- ---- the same, read to the end: what passed so far and the rest decide together
+and-assoc : (a b c : Bool) → (a && b) && c ≡ a && (b && c)
+and-assoc true b c = refl
+and-assoc false b c = refl
+
+and-true : (a : Bool) → a && true ≡ a
+and-true true = refl
+and-true false = refl
+
+module _ {A : Type 0} (ok : A → Bool) (xs : List A) (z : A) where
+  abbrev pub Kept : ℕ → Bool → Type 0
+  Kept i good = (i ≤ length xs) × (good && every ok (drop i xs) ≡ every ok xs)
+
+  pub kept-more : (i : ℕ) (good next : Bool) → Kept i good → i < length xs → next ≡ good && ok (getD xs i z) → Kept (i + 1) next
+  kept-more i good next p h e =
+      (omega arith, rw e (and-assoc good (ok (getD xs i z)) (every ok (drop (i + 1) xs)) ∙ rw (add-one i) (rw (drop-cons xs i z h) at (p .1))))
+
+  pub kept-all : (i : ℕ) (good : Bool) → Kept i good → length xs ≤ i → good ≡ every ok xs
+  kept-all i good p h = sym (and-true good) ∙ rw (drop-of-length-le xs h) at (p .1)
+
 &&-left : (a b : Bool) → a && b ≡ true → a ≡ true
 &&-left true b e = refl
 &&-left false b e = e

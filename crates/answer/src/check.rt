@@ -1,5 +1,6 @@
 // The tests of what a job carries. What a number of a list stands for is its caller's to say.
 ghost use mathlib.Core.Path.{_≡_};
+ghost use mathlib.Core.Bool.{_&&_};
 ghost use Rattle.answer.specs.Checks.{inRange, inRange2, inRange3, every, allInRange, exactly, namesOption, isNeighbour, cellCount};
 use face::vec::Vec2;
 use face::vec::Vec3;
@@ -34,18 +35,26 @@ pub fn in_range3(p: Vec3) -> bool
     false
 }
 
+// Lists are walked to their end whatever they hold, and no branch hangs on a number: so the compiler tests several at once.
+fn still(good: bool, next: bool) -> bool
+    ensures { λ r. ⌜ r ≡ good && next ⌝ }
+{
+    if good {
+        return next;
+    }
+    false
+}
+
 pub fn all_in_range(numbers: &[f32]) -> bool
     ensures { λ r. ⌜ r ≡ allInRange (now (numbers .entry)) ⌝ }
 {
+    let mut good = true;
     let mut i = 0;
     while i < numbers.len() {
-        if in_range(numbers[i]) {
-            i += 1;
-        } else {
-            return false;
-        }
+        good = still(good, in_range(numbers[i]));
+        i += 1;
     }
-    true
+    good
 }
 
 // Whether a list of a job has its length: so many numbers for each of so many entries.
@@ -84,29 +93,25 @@ pub fn is_neighbour(number: u32, cells: usize) -> bool
 pub fn all_name_options(numbers: &[u8], entries: usize) -> bool
     ensures { λ r. ⌜ r ≡ every (λ k. namesOption k entries) (now (numbers .entry)) ⌝ }
 {
+    let mut good = true;
     let mut i = 0;
     while i < numbers.len() {
-        if names_option(numbers[i], entries) {
-            i += 1;
-        } else {
-            return false;
-        }
+        good = still(good, names_option(numbers[i], entries));
+        i += 1;
     }
-    true
+    good
 }
 
 pub fn all_neighbours(numbers: &[u32], cells: usize) -> bool
     ensures { λ r. ⌜ r ≡ every (λ k. isNeighbour k cells) (now (numbers .entry)) ⌝ }
 {
+    let mut good = true;
     let mut i = 0;
     while i < numbers.len() {
-        if is_neighbour(numbers[i], cells) {
-            i += 1;
-        } else {
-            return false;
-        }
+        good = still(good, is_neighbour(numbers[i], cells));
+        i += 1;
     }
-    true
+    good
 }
 
 // At most 65,536 cells.

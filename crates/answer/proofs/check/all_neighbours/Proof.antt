@@ -1,18 +1,19 @@
--- `all_neighbours`: every number before the one read has passed. Assumes nothing.
+-- `all_neighbours`: what passed so far and the rest decide. Assumes nothing.
 use borrow.Author.Needs.{needs}
-use mathlib.Core.Path.{refl, sym, _∙_}
+use mathlib.Core.Path.{refl, ap, _∙_}
+use mathlib.Core.Bool.{Bool, _&&_}
 use Prim.Native.Nat.{_-_}
 use lib.ListN.{length}
 use Rattle.answer.specs.Checks.{isNeighbour}
-use Rattle.answer.proofs.Laws.{Passed, passed-more, passed-not, passed-all}
+use Rattle.answer.proofs.Laws.{Kept, kept-more, kept-all}
 use Rattle.answer.proofs.check.all_neighbours.Statement.{statement}
 use Rattle.answer.proofs.check.all_neighbours.Tie as tie
 
 abbrev Inv : tie.InvT-loop
-Inv numbers cells i₀ i = Passed (λ k. isNeighbour k cells) numbers 0 i
+Inv numbers cells good₀ i₀ good i = Kept (λ k. isNeighbour k cells) numbers 0 i good
 
 abbrev μ : tie.MeasureT-loop
-μ numbers cells i₀ i = length numbers - i
+μ numbers cells good₀ i₀ good i = length numbers - i
 
 pub all-neighbours-spec : {M : Type 1} → statement M
 all-neighbours-spec =
@@ -24,8 +25,8 @@ all-neighbours-spec =
     (λ c. search needs)
     (λ c. search needs)
     (λ c κs. search needs)
+    (λ c κs. search needs)
     (λ c. search needs)
     (λ c. search needs)
-    (λ c. passed-more _ _ 0 _ (c .before .before .before .before .loop .inv) (c .before .before .before .loop-test .taken) (sym (c .before .is-neighbour .ensures) ∙ c .if1 .taken))
-    (λ c. passed-not _ _ 0 _ (c .before .before .before .before .loop .inv) (c .before .before .before .loop-test .taken) (sym (c .before .is-neighbour .ensures) ∙ c .if1 .left))
-    (λ c. passed-all _ _ 0 _ (c .before .loop .inv) (c .loop-test .left)))
+    (λ c. kept-more _ _ 0 _ (c .before .before .before .before .loop .good) _ (c .before .before .before .before .loop .inv) (c .before .before .before .loop-test .taken) (c .still .ensures ∙ ap (λ (x : Bool). c .before .before .before .before .loop .good && x) (c .before .is-neighbour .ensures)))
+    (λ c. kept-all _ _ 0 _ _ (c .before .loop .inv) (c .loop-test .left)))
