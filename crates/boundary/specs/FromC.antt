@@ -1,8 +1,9 @@
 -- What a caller from C hands over, as the crates below take it. Definitions only.
 use Prim.Native.Nat.{ℕ}
-use mathlib.Core.Bool.{Bool, false, cond}
+use mathlib.Core.Bool.{Bool, false, _||_, cond}
 use mathlib.Core.List.{List}
 use lib.ListN.{getD}
+use lib.Dec.{eqb}
 use Rattle.face.specs.declared.vec.Vec2.{Vec2}
 use Rattle.face.specs.declared.vec.Vec3.{Vec3}
 use Rattle.face.specs.declared.triangle.Counts.{Counts}
@@ -23,6 +24,15 @@ use Rattle.column.specs.declared.Subdivisions.{Subdivisions}
 use Rattle.column.specs.declared.Subdivisions.the-variants as subdivisions
 use Rattle.column.specs.declared.Side.{Side}
 use Rattle.column.specs.declared.Column.{Column}
+use Rattle.heightmap.specs.declared.Fringe.{Fringe}
+use Rattle.heightmap.specs.declared.Fringe.the-variants as fringe
+use Rattle.heightmap.specs.declared.Customs.{Customs}
+use Rattle.heightmap.specs.declared.Customs.the-variants as customs
+use Rattle.heightmap.specs.declared.HeightRange.{HeightRange}
+use Rattle.heightmap.specs.declared.HeightRange.the-variants as heights
+use Rattle.heightmap.specs.declared.Origin.{Origin}
+use Rattle.heightmap.specs.declared.Origin.the-variants as origin
+use Rattle.heightmap.specs.declared.HeightMap.{HeightMap}
 use Rattle.boundary.specs.declared.from_c.CVec2.{CVec2}
 use Rattle.boundary.specs.declared.from_c.CVec3.{CVec3}
 use Rattle.boundary.specs.declared.from_c.CCounts.{CCounts}
@@ -34,6 +44,9 @@ use Rattle.boundary.specs.declared.jobs.CChoice.{CChoice}
 use Rattle.boundary.specs.declared.jobs.CSubdivisions.{CSubdivisions}
 use Rattle.boundary.specs.declared.jobs.CColumn.{CColumn}
 use Rattle.boundary.specs.declared.jobs.CCheapColumn.{CCheapColumn}
+use Rattle.boundary.specs.declared.jobs.CRange.{CRange}
+use Rattle.boundary.specs.declared.jobs.COrigin.{COrigin}
+use Rattle.boundary.specs.declared.jobs.CHeightMap.{CHeightMap}
 use Rattle.boundary.specs.declared.from_c.CUvOptions.{CUvOptions}
 
 abbrev pub vec2Of : CVec2 → Vec2
@@ -87,6 +100,34 @@ columnOf job =
       bottom = choiceOf (job .bottom);
       position = vec2Of (job .position);
       placement = placementOf (job .placement);
+    }
+
+abbrev pub rangeOf : CRange → HeightRange
+rangeOf r = cond (r .given) (heights.Of (r .min) (r .max)) heights.OfAll
+
+abbrev pub originOf : COrigin → Origin
+originOf o = cond (o .given) (origin.At (vec2Of (o .at))) origin.Centred
+
+-- a fringe is 1, none, or 2, listed; another number means nothing, and the job is refused
+abbrev pub isFringe : ℕ → Bool
+isFringe mark = eqb mark 1 || eqb mark 2
+
+abbrev pub fringeOf : ℕ → Fringe
+fringeOf mark = cond (eqb mark 2) fringe.Listed fringe.Bare
+
+abbrev pub customsOf : Bool → Customs
+customsOf listed = cond listed customs.Listed customs.Absent
+
+abbrev pub heightMapOf : CHeightMap → HeightMap
+heightMapOf job =
+    record {
+      caps = choiceOf (job .caps);
+      sides = choiceOf (job .sides);
+      range = rangeOf (job .range);
+      fringe = fringeOf (job .fringe);
+      customs = customsOf (job .customs);
+      placement = placementOf (job .placement);
+      origin = originOf (job .origin);
     }
 
 -- ---- texture options

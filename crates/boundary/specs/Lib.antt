@@ -1,2 +1,3 @@
 pub mod FromC
 pub mod ToC
+pub mod Maps

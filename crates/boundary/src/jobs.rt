@@ -1,12 +1,18 @@
 // A job as a caller hands it over, beside its lists.
 ghost use mathlib.Core.Path.{_≡_};
 ghost use Rattle.boundary.specs.FromC.{planeOf, choiceOf, sideOf, sidesOf, subdivisionsOf, columnOf, cheapColumnOf};
+ghost use Rattle.boundary.specs.FromC.{rangeOf, isFringe, fringeOf, customsOf, originOf, heightMapOf};
 use crate::from_c::CPlacement;
 use crate::from_c::CVec2;
 use cheap_column::CheapColumn;
 use column::Column;
 use column::Side;
 use column::Subdivisions;
+use heightmap::Customs;
+use heightmap::Fringe;
+use heightmap::HeightMap;
+use heightmap::HeightRange;
+use heightmap::Origin;
 use placement::options::Choice;
 use plane_builder::Plane;
 
@@ -45,6 +51,31 @@ pub struct CColumn {
 pub struct CCheapColumn {
     pub centre: CVec2,
     pub height: f32,
+}
+
+#[repr(C)]
+pub struct CRange {
+    pub given: bool,
+    pub min: f32,
+    pub max: f32,
+}
+
+#[repr(C)]
+pub struct COrigin {
+    pub given: bool,
+    pub at: CVec2,
+}
+
+// The fringe is 1, no heights beyond the edge, or 2, heights that are listed. Whether customs are listed is a bool.
+#[repr(C)]
+pub struct CHeightMap {
+    pub caps: CChoice,
+    pub sides: CChoice,
+    pub customs: bool,
+    pub fringe: u8,
+    pub range: CRange,
+    pub origin: COrigin,
+    pub placement: CPlacement,
 }
 
 pub fn plane_of(job: CPlane) -> Plane
@@ -125,5 +156,73 @@ pub fn cheap_column_of(job: CCheapColumn) -> CheapColumn
     CheapColumn {
         centre: centre,
         height: job.height,
+    }
+}
+
+fn range_of(r: CRange) -> HeightRange
+    ensures { λ x. ⌜ x ≡ rangeOf r ⌝ }
+{
+    if r.given {
+        return HeightRange::Of(r.min, r.max);
+    }
+    HeightRange::OfAll
+}
+
+fn origin_of(o: COrigin) -> Origin
+    ensures { λ r. ⌜ r ≡ originOf o ⌝ }
+{
+    if o.given {
+        let at = crate::from_c::vec2_of(o.at);
+        return Origin::At(at);
+    }
+    Origin::Centred
+}
+
+// Whether a fringe has a meaning; where it has none the job is refused.
+pub fn is_fringe(mark: u8) -> bool
+    ensures { λ r. ⌜ r ≡ isFringe mark ⌝ }
+{
+    if mark == 1 {
+        return true;
+    }
+    mark == 2
+}
+
+fn fringe_of(mark: u8) -> Fringe
+    ensures { λ r. ⌜ r ≡ fringeOf mark ⌝ }
+{
+    if mark == 2 {
+        return Fringe::Listed;
+    }
+    Fringe::Bare
+}
+
+fn customs_of(listed: bool) -> Customs
+    ensures { λ r. ⌜ r ≡ customsOf listed ⌝ }
+{
+    if listed {
+        return Customs::Listed;
+    }
+    Customs::Absent
+}
+
+pub fn heightmap_of(job: CHeightMap) -> HeightMap
+    ensures { λ r. ⌜ r ≡ heightMapOf job ⌝ }
+{
+    let caps = choice_of(job.caps);
+    let sides = choice_of(job.sides);
+    let range = range_of(job.range);
+    let fringe = fringe_of(job.fringe);
+    let customs = customs_of(job.customs);
+    let placement = crate::from_c::placement_of(job.placement);
+    let origin = origin_of(job.origin);
+    HeightMap {
+        caps: caps,
+        sides: sides,
+        range: range,
+        fringe: fringe,
+        customs: customs,
+        placement: placement,
+        origin: origin,
     }
 }

@@ -1,1 +1,2 @@
 mod Carried
+mod Meant

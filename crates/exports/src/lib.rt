@@ -3,6 +3,7 @@
 // definitions of `boundary`.
 pub mod cheap;
 pub mod columns;
+pub mod maps;
 pub mod merging;
 pub mod numbers;
 pub mod plane;

@@ -33,7 +33,7 @@ module _ (job : HeightMap) (ls : Lists) where
       let q = insetQuadOf (o .inset) (alteredQuad (o .uv) (wallQuad job (ls .grid) k d)) in
       standing-size (sideStand job) (quadMesh (o .inset) q) ∙ quad-size (o .inset) q
 
-  cap-sum : (k : ℕ) → measure (map (meshOf job ls) (capNames (job .caps) k)) ≡ capCounts job ls k
+  pub cap-sum : (k : ℕ) → measure (map (meshOf job ls) (capNames (job .caps) k)) ≡ capCounts job ls k
   cap-sum k = go (job .caps)
     where
       go : (c : Choice) → measure (map (meshOf job ls) (capNames c k)) ≡ ifOn c (sizeBy job ls (Cap k))

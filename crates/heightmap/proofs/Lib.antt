@@ -1,4 +1,6 @@
 pub mod Counts
 pub mod Faces
 pub mod Numbering
+pub mod Reading
+pub mod Walls
 pub mod Worked

@@ -1,4 +1,8 @@
-// What a height map is, after heightmap_builder.rs of hexx: its job, its cells' walls and its faces' names. All by value.
+// What a height map is, after heightmap_builder.rs of hexx: its job and its faces' names; in grid.rt its cells and their
+// walls, in options.rt the option of a face and where it stands. All by value.
+pub mod grid;
+pub mod options;
+
 use face::vec::Vec2;
 use placement::options::Choice;
 use placement::placement::Placement;

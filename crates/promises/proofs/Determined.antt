@@ -23,6 +23,11 @@ use Rattle.merge.proofs as merge
 use Rattle.column.proofs as column
 use Rattle.boundary.proofs as boundary
 use Rattle.column_builder.proofs as column_builder
+use Rattle.heightmap.proofs as heightmap
+use Rattle.heightmap_plan.proofs as heightmap_plan
+use Rattle.heightmap_faces.proofs as heightmap_faces
+use Rattle.heightmap_laying.proofs as heightmap_laying
+use Rattle.heightmap_builder.proofs as heightmap_builder
 use Rattle.sheet.proofs as sheet
 use Rattle.exports.proofs as exports
 
@@ -397,6 +402,12 @@ boundary-to-c-centroid-to-c κs a x y v w p q = (determined p q, refl)
 pub boundary-to-c-uv-centroid-to-c : Fixes boundary.to_c.uv_centroid_to_c.ended boundary.to_c.uv_centroid_to_c.Reads.Learnt
 boundary-to-c-uv-centroid-to-c κs a x y v w p q = (determined p q, refl)
 
+pub boundary-jobs-is-fringe : Fixes boundary.jobs.is_fringe.ended boundary.jobs.is_fringe.Reads.Learnt
+boundary-jobs-is-fringe κs a x y v w p q = (determined p q, refl)
+
+pub boundary-jobs-heightmap-of : Fixes boundary.jobs.heightmap_of.ended boundary.jobs.heightmap_of.Reads.Learnt
+boundary-jobs-heightmap-of κs a x y v w p q = (determined p q, refl)
+
 -- ---- column_builder
 pub column-builder-plan : Fixes column_builder.plan.ended column_builder.plan.Reads.Learnt
 column-builder-plan κs a x y v w p q = (determined p q, refl)
@@ -406,6 +417,131 @@ column-builder-build κs a x y v w p q = let e = determined (p .1) (q .1) in (de
 
 pub column-builder-face : Fixes column_builder.face.ended column_builder.face.Reads.Learnt
 column-builder-face κs a x y v w p q = let e = determined (p .1) (q .1) in (determined (p .0) (q .0), λ i. (tt, (tt, (tt, (tt, (tt, (tt, (e i .vertices, (e i .normals, (e i .uvs, (e i .indices, tt)))))))))))
+
+-- ---- heightmap
+pub heightmap-grid-cells-in : Fixes heightmap.grid.cells_in.ended heightmap.grid.cells_in.Reads.Learnt
+heightmap-grid-cells-in κs a x y v w p q = (determined p q, refl)
+
+pub heightmap-grid-height-at : Fixes heightmap.grid.height_at.ended heightmap.grid.height_at.Reads.Learnt
+heightmap-grid-height-at κs a x y v w p q = (determined p q, refl)
+
+pub heightmap-grid-position-at : Fixes heightmap.grid.position_at.ended heightmap.grid.position_at.Reads.Learnt
+heightmap-grid-position-at κs a x y v w p q = (determined p q, refl)
+
+pub heightmap-grid-left-at : Fixes heightmap.grid.left_at.ended heightmap.grid.left_at.Reads.Learnt
+heightmap-grid-left-at κs a x y v w p q = (determined p q, refl)
+
+pub heightmap-grid-right-at : Fixes heightmap.grid.right_at.ended heightmap.grid.right_at.Reads.Learnt
+heightmap-grid-right-at κs a x y v w p q = (determined p q, refl)
+
+pub heightmap-grid-neighbour-at : Fixes heightmap.grid.neighbour_at.ended heightmap.grid.neighbour_at.Reads.Learnt
+heightmap-grid-neighbour-at κs a x y v w p q = (determined p q, refl)
+
+pub heightmap-grid-fringe-at : Fixes heightmap.grid.fringe_at.ended heightmap.grid.fringe_at.Reads.Learnt
+heightmap-grid-fringe-at κs a x y v w p q = (determined p q, refl)
+
+pub heightmap-grid-wall-at : Fixes heightmap.grid.wall_at.ended heightmap.grid.wall_at.Reads.Learnt
+heightmap-grid-wall-at κs a x y v w p q = (determined p q, refl)
+
+pub heightmap-grid-is-present : Fixes heightmap.grid.is_present.ended heightmap.grid.is_present.Reads.Learnt
+heightmap-grid-is-present κs a x y v w p q = (determined p q, refl)
+
+pub heightmap-grid-foot-of : Fixes heightmap.grid.foot_of.ended heightmap.grid.foot_of.Reads.Learnt
+heightmap-grid-foot-of κs a x y v w p q = (determined p q, refl)
+
+pub heightmap-grid-span-of : Fixes heightmap.grid.span_of.ended heightmap.grid.span_of.Reads.Learnt
+heightmap-grid-span-of κs a x y v w p q = (determined p q, refl)
+
+pub heightmap-options-choice-of : Fixes heightmap.options.choice_of.ended heightmap.options.choice_of.Reads.Learnt
+heightmap-options-choice-of κs a x y v w p q = (determined p q, refl)
+
+pub heightmap-options-option-of : Fixes heightmap.options.option_of.ended heightmap.options.option_of.Reads.Learnt
+heightmap-options-option-of κs a x y v w p q = (determined p q, refl)
+
+pub heightmap-options-origin-of : Fixes heightmap.options.origin_of.ended heightmap.options.origin_of.Reads.Learnt
+heightmap-options-origin-of κs a x y v w p q = (determined p q, refl)
+
+pub heightmap-options-side-stand : Fixes heightmap.options.side_stand.ended heightmap.options.side_stand.Reads.Learnt
+heightmap-options-side-stand κs a x y v w p q = (determined p q, refl)
+
+pub heightmap-options-cap-stand : Fixes heightmap.options.cap_stand.ended heightmap.options.cap_stand.Reads.Learnt
+heightmap-options-cap-stand κs a x y v w p q = (determined p q, refl)
+
+-- ---- heightmap_builder
+pub heightmap-builder-plan : Fixes heightmap_builder.plan.ended heightmap_builder.plan.Reads.Learnt
+heightmap-builder-plan κs a x y v w p q = (determined p q, refl)
+
+pub heightmap-builder-build : Fixes heightmap_builder.build.ended heightmap_builder.build.Reads.Learnt
+heightmap-builder-build κs a x y v w p q = let e = determined (p .1) (q .1) in (determined (p .0) (q .0), λ i. (tt, (tt, (tt, (tt, (tt, (tt, (tt, (tt, (e i .vertices, (e i .normals, (e i .uvs, (e i .indices, tt)))))))))))))
+
+pub heightmap-builder-face : Fixes heightmap_builder.face.ended heightmap_builder.face.Reads.Learnt
+heightmap-builder-face κs a x y v w p q = let e = determined (p .1) (q .1) in (determined (p .0) (q .0), λ i. (tt, (tt, (tt, (tt, (tt, (tt, (tt, (tt, (tt, (e i .vertices, (e i .normals, (e i .uvs, (e i .indices, tt))))))))))))))
+
+-- ---- heightmap_faces
+pub heightmap-faces-kept-number-of : Fixes heightmap_faces.kept.number_of.ended heightmap_faces.kept.number_of.Reads.Learnt
+heightmap-faces-kept-number-of κs a x y v w p q = (determined p q, refl)
+
+pub heightmap-faces-kept-top-by : Fixes heightmap_faces.kept.top_by.ended heightmap_faces.kept.top_by.Reads.Learnt
+heightmap-faces-kept-top-by κs a x y v w p q = (determined p q, refl)
+
+pub heightmap-faces-skin-of : Fixes heightmap_faces.skin_of.ended heightmap_faces.skin_of.Reads.Learnt
+heightmap-faces-skin-of κs a x y v w p q = (determined p q, refl)
+
+pub heightmap-faces-wall-quad : Fixes heightmap_faces.wall_quad.ended heightmap_faces.wall_quad.Reads.Learnt
+heightmap-faces-wall-quad κs a x y v w p q = (determined p q, refl)
+
+pub heightmap-faces-top-of : Fixes heightmap_faces.top_of.ended heightmap_faces.top_of.Reads.Learnt
+heightmap-faces-top-of κs a x y v w p q = (determined p q, refl)
+
+pub heightmap-faces-cap-offset : Fixes heightmap_faces.cap_offset.ended heightmap_faces.cap_offset.Reads.Learnt
+heightmap-faces-cap-offset κs a x y v w p q = (determined p q, refl)
+
+pub heightmap-faces-lift : Fixes heightmap_faces.lift.ended heightmap_faces.lift.Reads.Learnt
+heightmap-faces-lift κs a x y v w p q = (determined p q, refl)
+
+pub heightmap-faces-named-cap-of : Fixes heightmap_faces.named.cap_of.ended heightmap_faces.named.cap_of.Reads.Learnt
+heightmap-faces-named-cap-of κs a x y v w p q = (determined p q, refl)
+
+pub heightmap-faces-named-side-of : Fixes heightmap_faces.named.side_of.ended heightmap_faces.named.side_of.Reads.Learnt
+heightmap-faces-named-side-of κs a x y v w p q = (determined p q, refl)
+
+pub heightmap-faces-kept-level-by : Fixes heightmap_faces.kept.level_by.ended heightmap_faces.kept.level_by.Reads.Learnt
+heightmap-faces-kept-level-by κs a x y v w p q = (determined p q, refl)
+
+pub heightmap-faces-level-of : Fixes heightmap_faces.level_of.ended heightmap_faces.level_of.Reads.Learnt
+heightmap-faces-level-of κs a x y v w p q = (determined p q, refl)
+
+-- ---- heightmap_laying
+pub heightmap-laying-put-all : Fixes heightmap_laying.put_all.ended heightmap_laying.put_all.Reads.Learnt
+heightmap-laying-put-all κs a x y v w p q = let e = determined p q in (refl, λ i. (tt, (tt, (tt, (tt, (tt, (tt, (tt, (tt, (e i .vertices, (e i .normals, (e i .uvs, (e i .indices, tt)))))))))))))
+
+pub heightmap-laying-put-named : Fixes heightmap_laying.put_named.ended heightmap_laying.put_named.Reads.Learnt
+heightmap-laying-put-named κs a x y v w p q = let e = determined p q in (refl, λ i. (tt, (tt, (tt, (tt, (tt, (tt, (tt, (tt, (tt, (tt, (e i .vertices, (e i .normals, (e i .uvs, (e i .indices, tt)))))))))))))))
+
+-- ---- heightmap_plan
+pub heightmap-plan-test : Fixes heightmap_plan.test.ended heightmap_plan.test.Reads.Learnt
+heightmap-plan-test κs a x y v w p q = (determined p q, refl)
+
+pub heightmap-plan-plan : Fixes heightmap_plan.plan.ended heightmap_plan.plan.Reads.Learnt
+heightmap-plan-plan κs a x y v w p q = (determined p q, refl)
+
+pub heightmap-plan-tally-tally-all : Fixes heightmap_plan.tally.tally_all.ended heightmap_plan.tally.tally_all.Reads.Learnt
+heightmap-plan-tally-tally-all κs a x y v w p q = (determined p q, refl)
+
+pub heightmap-plan-tally-cell-start : Fixes heightmap_plan.tally.cell_start.ended heightmap_plan.tally.cell_start.Reads.Learnt
+heightmap-plan-tally-cell-start κs a x y v w p q = (determined p q, refl)
+
+pub heightmap-plan-names-survey-faces : Fixes heightmap_plan.names.survey_faces.ended heightmap_plan.names.survey_faces.Reads.Learnt
+heightmap-plan-names-survey-faces κs a x y v w p q = (determined p q, refl)
+
+pub heightmap-plan-names-find : Fixes heightmap_plan.names.find.ended heightmap_plan.names.find.Reads.Learnt
+heightmap-plan-names-find κs a x y v w p q = (determined p q, refl)
+
+pub heightmap-plan-names-face-count : Fixes heightmap_plan.names.face_count.ended heightmap_plan.names.face_count.Reads.Learnt
+heightmap-plan-names-face-count κs a x y v w p q = (determined p q, refl)
+
+pub heightmap-plan-names-number-of : Fixes heightmap_plan.names.number_of.ended heightmap_plan.names.number_of.Reads.Learnt
+heightmap-plan-names-number-of κs a x y v w p q = (determined p q, refl)
 
 -- ---- sheet
 pub sheet-write-answer : Fixes sheet.write_answer.ended sheet.write_answer.Reads.Learnt
@@ -468,3 +604,12 @@ exports-texture-hosirekar-alter-uv κs a x y v w p q = (determined p q, refl)
 
 pub exports-texture-hosirekar-wrap-uv : Fixes exports.texture.hosirekar_wrap_uv.ended exports.texture.hosirekar_wrap_uv.Reads.Learnt
 exports-texture-hosirekar-wrap-uv κs a x y v w p q = (determined p q, refl)
+
+pub exports-maps-hosirekar-heightmap-plan : Fixes exports.maps.hosirekar_heightmap_plan.ended exports.maps.hosirekar_heightmap_plan.Reads.Learnt
+exports-maps-hosirekar-heightmap-plan κs a x y v w p q = (determined p q, refl)
+
+pub exports-maps-hosirekar-heightmap-build : Fixes exports.maps.hosirekar_heightmap_build.ended exports.maps.hosirekar_heightmap_build.Reads.Learnt
+exports-maps-hosirekar-heightmap-build κs a x y v w p q = let e = determined (p .1) (q .1) in (determined (p .0) (q .0), λ i. (tt, (tt, (tt, (tt, (tt, (tt, (tt, (tt, (e i .vertices, (e i .normals, (e i .uvs, (e i .indices, tt)))))))))))))
+
+pub exports-maps-hosirekar-heightmap-face : Fixes exports.maps.hosirekar_heightmap_face.ended exports.maps.hosirekar_heightmap_face.Reads.Learnt
+exports-maps-hosirekar-heightmap-face κs a x y v w p q = let e = determined (p .1) (q .1) in (determined (p .0) (q .0), λ i. (tt, (tt, (tt, (tt, (tt, (tt, (tt, (tt, (tt, (e i .vertices, (e i .normals, (e i .uvs, (e i .indices, tt))))))))))))))

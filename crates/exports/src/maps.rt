@@ -1,0 +1,118 @@
+// A height map: 27 numbers a cell, six neighbours a cell, six fringe heights and seven option numbers a cell if they are
+// listed, six cap corners in a list of twelve, and a table of options in two lists.
+ghost use mathlib.Core.Path.{_≡_};
+ghost use Rattle.buffers.specs.Lent.{entering, become};
+ghost use Rattle.heightmap.specs.HeightMap.{lent};
+ghost use Rattle.boundary.specs.Maps.{mapPlanned, mapWhole, mapFace, mapBuilt, mapFaced};
+ghost use Rattle.boundary.specs.ToC.{answerToC};
+use answer::answer::Answer;
+use answer::answer::Refusal;
+use boundary::jobs::CHeightMap;
+use boundary::to_c::CAnswer;
+
+// The counts of the job, or why it is refused.
+#[no_mangle]
+pub extern "C" fn hosirekar_heightmap_plan(
+    job: CHeightMap,
+    cells: &[f32],
+    neighbours: &[u32],
+    fringe: &[f32],
+    customs: &[u8],
+    corners: &[f32],
+    numbers: &[f32],
+    marks: &[u8],
+) -> CAnswer
+    ensures { λ r. ⌜ r ≡ answerToC (mapPlanned job (lent cells neighbours fringe customs corners numbers marks)) ⌝ }
+{
+    if boundary::jobs::is_fringe(job.fringe) {
+        return boundary::to_c::answer_to_c(heightmap_builder::plan(
+            boundary::jobs::heightmap_of(job),
+            cells,
+            neighbours,
+            fringe,
+            customs,
+            corners,
+            numbers,
+            marks,
+        ));
+    }
+    boundary::to_c::answer_to_c(Answer::Refused(Refusal::Shape))
+}
+
+// The whole job, written to four buffers, or nothing.
+#[no_mangle]
+pub extern "C" fn hosirekar_heightmap_build(
+    job: CHeightMap,
+    cells: &[f32],
+    neighbours: &[u32],
+    fringe: &[f32],
+    customs: &[u8],
+    corners: &[f32],
+    numbers: &[f32],
+    marks: &[u8],
+    vertices: &mut [f32],
+    normals: &mut [f32],
+    uvs: &mut [f32],
+    indices: &mut [u16],
+) -> CAnswer
+    ensures answer { λ r. ⌜ r ≡ answerToC (mapWhole job (lent cells neighbours fringe customs corners numbers marks) (entering vertices normals uvs indices)) ⌝ }
+    ensures buffers { λ _. ⌜ become (mapBuilt job (lent cells neighbours fringe customs corners numbers marks)) vertices normals uvs indices ⌝ }
+{
+    if boundary::jobs::is_fringe(job.fringe) {
+        return boundary::to_c::answer_to_c(heightmap_builder::build(
+            boundary::jobs::heightmap_of(job),
+            cells,
+            neighbours,
+            fringe,
+            customs,
+            corners,
+            numbers,
+            marks,
+            vertices,
+            normals,
+            uvs,
+            indices,
+        ));
+    }
+    boundary::to_c::answer_to_c(Answer::Refused(Refusal::Shape))
+}
+
+// One face of the job, by its number: of each cell the cap, then the sides that stand.
+#[no_mangle]
+pub extern "C" fn hosirekar_heightmap_face(
+    job: CHeightMap,
+    cells: &[f32],
+    neighbours: &[u32],
+    fringe: &[f32],
+    customs: &[u8],
+    corners: &[f32],
+    numbers: &[f32],
+    marks: &[u8],
+    number: usize,
+    vertices: &mut [f32],
+    normals: &mut [f32],
+    uvs: &mut [f32],
+    indices: &mut [u16],
+) -> CAnswer
+    ensures answer { λ r. ⌜ r ≡ answerToC (mapFace job (lent cells neighbours fringe customs corners numbers marks) number (entering vertices normals uvs indices)) ⌝ }
+    ensures buffers { λ _. ⌜ become (mapFaced job (lent cells neighbours fringe customs corners numbers marks) number) vertices normals uvs indices ⌝ }
+{
+    if boundary::jobs::is_fringe(job.fringe) {
+        return boundary::to_c::answer_to_c(heightmap_builder::face(
+            boundary::jobs::heightmap_of(job),
+            cells,
+            neighbours,
+            fringe,
+            customs,
+            corners,
+            numbers,
+            marks,
+            number,
+            vertices,
+            normals,
+            uvs,
+            indices,
+        ));
+    }
+    boundary::to_c::answer_to_c(Answer::Refused(Refusal::Shape))
+}

@@ -1,0 +1,119 @@
+// The option of each face, and where the faces stand.
+ghost use mathlib.Core.Path.{_≡_};
+ghost use mathlib.Core.Bool.{false};
+ghost use Prim.Native.Nat.{_+_, _*_, _≤_};
+ghost use Rattle.placement.specs.declared.placement.Choice3.the-variants.{With};
+ghost use Rattle.face.specs.Vec.{flat};
+ghost use Rattle.placement.specs.Placing.{standFrom};
+ghost use Rattle.heightmap.specs.HeightMap.{lentForOptions, customAt, customPlace, ownChoice, chosen, optionOf, originOf, sideStand, capOffset};
+use face::vec::Vec2;
+use face::vec::Vec3;
+use placement::options::Choice;
+use placement::options::FaceOptions;
+use placement::placement::Choice3;
+use placement::placement::Stand;
+
+// The option that a list names for one of the seven faces of a cell: 255 means the job's own.
+fn custom_at(how: crate::Customs, customs: &[u8], k: usize, i: usize) -> u8
+    requires { ⌜ i ≤ 256 ⌝ }
+    ensures { λ r. ⌜ r ≡ customAt how (now (customs .entry)) (7 * k + i) ⌝ }
+{
+    match how {
+        crate::Customs::Absent => 255,
+        crate::Customs::Listed => {
+            if customs.len() / 7 < k {
+                return 255;
+            }
+            let at = 7 * k + i;
+            if at < customs.len() {
+                return customs[at];
+            }
+            255
+        }
+    }
+}
+
+// A face's own option where it names one, else the job's; so none drops a face.
+fn choose(own: Choice, custom: u8) -> Choice
+    ensures { λ r. ⌜ r ≡ chosen own custom ⌝ }
+{
+    if custom == 255 {
+        return own;
+    }
+    Choice::With(custom)
+}
+
+pub fn choice_of(job: crate::HeightMap, name: crate::Name, customs: &[u8]) -> Choice
+    ensures { λ r. ⌜ r ≡ chosen (ownChoice job name) (customAt (job .customs) (now (customs .entry)) (customPlace name)) ⌝ }
+{
+    let how = job.customs;
+    let caps = job.caps;
+    let sides = job.sides;
+    match name {
+        crate::Name::Cap(k) => choose(caps, custom_at(how, customs, k, 0)),
+        crate::Name::Side(k, d) => choose(sides, custom_at(how, customs, k, 1 + (d as usize))),
+    }
+}
+
+pub fn option_of(
+    job: crate::HeightMap,
+    name: crate::Name,
+    customs: &[u8],
+    numbers: &[f32],
+    marks: &[u8],
+) -> FaceOptions
+    ensures { λ r. ⌜ r ≡ optionOf job (lentForOptions customs numbers marks) name ⌝ }
+{
+    placement::options::option_for(choice_of(job, name, customs), numbers, marks)
+}
+
+fn ground(p: Vec2) -> Vec3
+    ensures { λ r. ⌜ r ≡ flat p ⌝ }
+{
+    Vec3 {
+        x: p.x,
+        y: 0.0,
+        z: p.y,
+    }
+}
+
+// The origin, at height +0, unless the map is centred.
+pub fn origin_of(origin: crate::Origin) -> Choice3
+    ensures { λ r. ⌜ r ≡ originOf origin ⌝ }
+{
+    match origin {
+        crate::Origin::Centred => Choice3::Absent,
+        crate::Origin::At(p) => Choice3::With(ground(p)),
+    }
+}
+
+// A side has no position of its own.
+pub fn side_stand(job: crate::HeightMap) -> Stand
+    ensures { λ r. ⌜ r ≡ sideStand job ⌝ }
+{
+    let s = job.placement;
+    let origin = job.origin;
+    placement::placement::stand_from(origin_of(origin), Choice3::Absent, false, s)
+}
+
+// Added to the cell's position, so that the -0 of 0 times a height below 0 can stay.
+fn cap_offset(position: Vec2, height: f32) -> Vec3
+    ensures { λ r. ⌜ r ≡ capOffset position height ⌝ }
+{
+    let up = Vec3 {
+        x: 0.0 * height,
+        y: height,
+        z: 0.0 * height,
+    };
+    face::vec::add3(ground(position), up)
+}
+
+// The cap of a cell at this position and of this height.
+pub fn cap_stand(job: crate::HeightMap, position: Vec2, height: f32) -> Stand
+    ensures { λ r. ⌜ r ≡ standFrom (originOf (job .origin)) (With (capOffset position height)) false (job .placement) ⌝ }
+{
+    let s = job.placement;
+    let origin = job.origin;
+    let first = cap_offset(position, height);
+    placement::placement::stand_from(origin_of(origin), Choice3::With(first), false, s)
+}

@@ -1,0 +1,3 @@
+pub mod Speed
+pub mod Kept
+pub mod Named
