@@ -193,6 +193,131 @@ pub fn hosirekar_column_face(
     }
 }
 
+/// The counts of a height map, or why it is refused.
+#[inline]
+pub fn hosirekar_heightmap_plan(
+    job: CHeightMap,
+    cells: &[f32],
+    neighbours: &[u32],
+    fringe: &[f32],
+    customs: &[u8],
+    corners: &[f32],
+    numbers: &[f32],
+    marks: &[u8],
+) -> CAnswer {
+    unsafe {
+        raw::hosirekar_heightmap_plan(
+            job,
+            cells.as_ptr(),
+            cells.len(),
+            neighbours.as_ptr(),
+            neighbours.len(),
+            fringe.as_ptr(),
+            fringe.len(),
+            customs.as_ptr(),
+            customs.len(),
+            corners.as_ptr(),
+            corners.len(),
+            numbers.as_ptr(),
+            numbers.len(),
+            marks.as_ptr(),
+            marks.len(),
+        )
+    }
+}
+
+/// A whole height map, written to four buffers, or nothing.
+#[inline]
+pub fn hosirekar_heightmap_build(
+    job: CHeightMap,
+    cells: &[f32],
+    neighbours: &[u32],
+    fringe: &[f32],
+    customs: &[u8],
+    corners: &[f32],
+    numbers: &[f32],
+    marks: &[u8],
+    vertices: &mut [f32],
+    normals: &mut [f32],
+    uvs: &mut [f32],
+    indices: &mut [u16],
+) -> CAnswer {
+    unsafe {
+        raw::hosirekar_heightmap_build(
+            job,
+            cells.as_ptr(),
+            cells.len(),
+            neighbours.as_ptr(),
+            neighbours.len(),
+            fringe.as_ptr(),
+            fringe.len(),
+            customs.as_ptr(),
+            customs.len(),
+            corners.as_ptr(),
+            corners.len(),
+            numbers.as_ptr(),
+            numbers.len(),
+            marks.as_ptr(),
+            marks.len(),
+            vertices.as_mut_ptr(),
+            vertices.len(),
+            normals.as_mut_ptr(),
+            normals.len(),
+            uvs.as_mut_ptr(),
+            uvs.len(),
+            indices.as_mut_ptr(),
+            indices.len(),
+        )
+    }
+}
+
+/// One face of a height map: of each cell the cap, then the sides that stand.
+#[inline]
+pub fn hosirekar_heightmap_face(
+    job: CHeightMap,
+    cells: &[f32],
+    neighbours: &[u32],
+    fringe: &[f32],
+    customs: &[u8],
+    corners: &[f32],
+    numbers: &[f32],
+    marks: &[u8],
+    number: usize,
+    vertices: &mut [f32],
+    normals: &mut [f32],
+    uvs: &mut [f32],
+    indices: &mut [u16],
+) -> CAnswer {
+    unsafe {
+        raw::hosirekar_heightmap_face(
+            job,
+            cells.as_ptr(),
+            cells.len(),
+            neighbours.as_ptr(),
+            neighbours.len(),
+            fringe.as_ptr(),
+            fringe.len(),
+            customs.as_ptr(),
+            customs.len(),
+            corners.as_ptr(),
+            corners.len(),
+            numbers.as_ptr(),
+            numbers.len(),
+            marks.as_ptr(),
+            marks.len(),
+            number,
+            vertices.as_mut_ptr(),
+            vertices.len(),
+            normals.as_mut_ptr(),
+            normals.len(),
+            uvs.as_mut_ptr(),
+            uvs.len(),
+            indices.as_mut_ptr(),
+            indices.len(),
+        )
+    }
+}
+
 /// The counts of a cheap column, or why it is refused.
 #[inline]
 pub fn hosirekar_cheap_column_plan(job: CCheapColumn, corners: &[f32]) -> CAnswer {

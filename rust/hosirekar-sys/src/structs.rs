@@ -135,6 +135,48 @@ pub struct CColumn {
     pub placement: CPlacement,
 }
 
+/// The range by which the v of a map's sides goes, if given; else that of all heights.
+#[repr(C)]
+#[derive(Clone, Copy, Debug, Default, PartialEq)]
+pub struct CRange {
+    /// Whether it is.
+    pub given: bool,
+    /// Where v is 0.
+    pub min: f32,
+    /// Where v is 1.
+    pub max: f32,
+}
+
+/// What is added to a map last, if given; a map without it is centred.
+#[repr(C)]
+#[derive(Clone, Copy, Debug, Default, PartialEq)]
+pub struct COrigin {
+    /// Whether it is.
+    pub given: bool,
+    /// x and z.
+    pub at: CVec2,
+}
+
+/// A height map.
+#[repr(C)]
+#[derive(Clone, Copy, Debug, Default, PartialEq)]
+pub struct CHeightMap {
+    /// The caps of all cells.
+    pub caps: CChoice,
+    /// The sides of all cells.
+    pub sides: CChoice,
+    /// Whether seven option numbers a cell are listed.
+    pub customs: bool,
+    /// 1 for no heights beyond the edge, 2 for six a cell that are listed; another number is refused.
+    pub fringe: u8,
+    /// Of the heights.
+    pub range: CRange,
+    /// Added last.
+    pub origin: COrigin,
+    /// Where it is put before that.
+    pub placement: CPlacement,
+}
+
 /// A cheap column.
 #[repr(C)]
 #[derive(Clone, Copy, Debug, Default, PartialEq)]

@@ -1,4 +1,4 @@
-//! The three kinds of job with their lists, the calls of each, and what holds them to a mesh.
+//! The kinds of job with their lists, the calls of each, and what holds them to a mesh.
 
 use super::{done, longer, not_empty, refused, shortened, Lengths, Lent, Mesh};
 use hosirekar_sys::*;
@@ -38,6 +38,17 @@ pub struct Column {
 pub struct CheapColumn {
     pub job: CCheapColumn,
     pub corners: Vec<f32>,
+}
+
+#[derive(Clone, Debug)]
+pub struct HeightMap {
+    pub job: CHeightMap,
+    pub cells: Vec<f32>,
+    pub neighbours: Vec<u32>,
+    pub fringe: Vec<f32>,
+    pub customs: Vec<u8>,
+    pub corners: Vec<f32>,
+    pub table: Table,
 }
 
 impl Job for Plane {
@@ -98,6 +109,56 @@ impl Job for Column {
         hosirekar_column_face(
             self.job,
             &self.pairs,
+            &self.corners,
+            &self.table.numbers,
+            &self.table.marks,
+            number,
+            to.vertices,
+            to.normals,
+            to.uvs,
+            to.indices,
+        )
+    }
+}
+
+impl Job for HeightMap {
+    fn plan(&self) -> CAnswer {
+        hosirekar_heightmap_plan(
+            self.job,
+            &self.cells,
+            &self.neighbours,
+            &self.fringe,
+            &self.customs,
+            &self.corners,
+            &self.table.numbers,
+            &self.table.marks,
+        )
+    }
+
+    fn build(&self, to: Lent) -> CAnswer {
+        hosirekar_heightmap_build(
+            self.job,
+            &self.cells,
+            &self.neighbours,
+            &self.fringe,
+            &self.customs,
+            &self.corners,
+            &self.table.numbers,
+            &self.table.marks,
+            to.vertices,
+            to.normals,
+            to.uvs,
+            to.indices,
+        )
+    }
+
+    fn face(&self, number: usize, to: Lent) -> CAnswer {
+        hosirekar_heightmap_face(
+            self.job,
+            &self.cells,
+            &self.neighbours,
+            &self.fringe,
+            &self.customs,
             &self.corners,
             &self.table.numbers,
             &self.table.marks,
