@@ -13,20 +13,16 @@ use job::Job;
 // What ends a case.
 const END: u32 = 0xe4d;
 
-// The kinds, in the record's order: cheap columns, planes and columns are 0 to 2.
-const KINDS: u32 = 9;
+// The kinds, in the record's order: cheap columns, planes, columns and height maps are 0 to 3.
+const KINDS: u32 = 8;
 
-const MERGES: u32 = 3;
+const MERGES: u32 = 4;
 
-const STORED: u32 = 4;
+const STORED: u32 = 5;
 
-const POINTS: u32 = 5;
+const POINTS: u32 = 6;
 
-const WRAPS: u32 = 6;
-
-const QUADS: u32 = 7;
-
-const HEXAGONS: u32 = 8;
+const WRAPS: u32 = 7;
 
 // The most runs of a case, and the most calls of a run.
 const RUNS: usize = 16;
@@ -66,7 +62,7 @@ fn ran(kind: u32, job: Job) -> bool {
 }
 
 fn built(kind: u32) -> bool {
-    let job = job::read();
+    let job = job::read(kind);
     let mut right = true;
     let runs = words::size(RUNS);
     for _i in 0usize..runs {
@@ -90,12 +86,6 @@ fn is_right(kind: u32) -> bool {
     }
     if kind == WRAPS {
         return faces::is_wrap();
-    }
-    if kind == QUADS {
-        return faces::is_quad();
-    }
-    if kind == HEXAGONS {
-        return faces::is_hexagon();
     }
     built(kind)
 }
@@ -181,7 +171,16 @@ fn ended() -> bool {
     if io::read_full(0, &mut last) != 4 {
         return false;
     }
-    last[0] == b'e' && last[1] == b'n' && last[2] == b'd' && last[3] == b'\n'
+    if last[0] != b'e' {
+        return false;
+    }
+    if last[1] != b'n' {
+        return false;
+    }
+    if last[2] != b'd' {
+        return false;
+    }
+    last[3] == b'\n'
 }
 
 fn main() {

@@ -119,7 +119,7 @@ pub fn drawn_columns(random: &mut Random, count: usize) -> Cases<Column> {
 }
 
 /// Every inset with each scale, and every texture.
-fn all_options() -> Vec<FaceOptions> {
+pub(crate) fn all_options() -> Vec<FaceOptions> {
     let once = insets().into_iter().filter(|(_, when)| *when == WHENS[0]);
     let textured = textures().into_iter().enumerate().map(|(at, uv)| {
         let inset = inset(MODES[at % 2], 0.3, at % 4 < 2);
@@ -254,7 +254,7 @@ pub fn drawn_column(random: &mut Random, turned: bool) -> Column {
     column_of(random, size, turned)
 }
 
-fn drawn_size(random: &mut Random) -> Size {
+pub(crate) fn drawn_size(random: &mut Random) -> Size {
     match random.once_in(3) {
         true => Size::Any,
         false => Size::Moderate,
@@ -302,23 +302,23 @@ pub fn column_of(random: &mut Random, size: Size, turned: bool) -> Column {
     }
 }
 
-fn draw(random: &mut Random, size: Size, moderate: f32) -> f32 {
+pub(crate) fn draw(random: &mut Random, size: Size, moderate: f32) -> f32 {
     match size {
         Size::Moderate => within(random, moderate),
         Size::Any => number(random),
     }
 }
 
-fn point(random: &mut Random, size: Size, moderate: f32) -> Vec2 {
+pub(crate) fn point(random: &mut Random, size: Size, moderate: f32) -> Vec2 {
     vec2(draw(random, size, moderate), draw(random, size, moderate))
 }
 
-fn three(random: &mut Random, size: Size, moderate: f32) -> Vec3 {
+pub(crate) fn three(random: &mut Random, size: Size, moderate: f32) -> Vec3 {
     point(random, size, moderate).extend(draw(random, size, moderate))
 }
 
 /// A regular hexagon, a bent one, or, for numbers of any size, six points.
-fn corners(random: &mut Random, size: Size) -> [Vec2; 6] {
+pub(crate) fn corners(random: &mut Random, size: Size) -> [Vec2; 6] {
     let by = vec2(within(random, 20.0), within(random, 20.0));
     let regular = stretched(random.once_in(2), by);
     match (size, random.below(3)) {
@@ -329,7 +329,7 @@ fn corners(random: &mut Random, size: Size) -> [Vec2; 6] {
 }
 
 /// Up to four options.
-fn table(random: &mut Random, size: Size) -> Vec<FaceOptions> {
+pub(crate) fn table(random: &mut Random, size: Size) -> Vec<FaceOptions> {
     let count = random.below(ENTRIES + 1);
     let mut option = || match size {
         Size::Any => drawn_options(random),
@@ -348,7 +348,7 @@ fn moderate_options(random: &mut Random) -> FaceOptions {
 }
 
 /// The default, or an entry of a table of so many.
-fn drawn_choice(random: &mut Random, entries: usize) -> Choice {
+pub(crate) fn drawn_choice(random: &mut Random, entries: usize) -> Choice {
     match random.below(entries as u32 + 1) {
         0 => Choice::Default,
         entry => Choice::Entry(entry as usize - 1),
@@ -372,7 +372,7 @@ fn standing(random: &mut Random, size: Size, turned: bool) -> Standing {
 }
 
 /// A rotation about any axis by any angle, or one as `facing` makes it.
-fn quaternion(random: &mut Random) -> Quat {
+pub(crate) fn quaternion(random: &mut Random) -> Quat {
     let mut axis = || {
         let drawn = vec3(
             within(random, 1.0),

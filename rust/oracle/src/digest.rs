@@ -93,6 +93,14 @@ impl Lists {
         }
     }
 
+    /// Whether no place of them holds what stands there before a call.
+    #[must_use]
+    pub fn tells(&self) -> bool {
+        let [floats @ .., indices] = &self.0;
+        let kept = floats.iter().flatten().any(|&word| word == KEPT);
+        !kept && !indices.contains(&KEPT_INDEX)
+    }
+
     /// All words in order.
     fn words(&self) -> impl Iterator<Item = u32> + '_ {
         self.0.iter().flatten().copied()

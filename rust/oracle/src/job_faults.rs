@@ -3,7 +3,7 @@
 use crate::builder_cases::{recorded_columns, recorded_planes};
 use crate::builders::{Choice, Column, Plane};
 use crate::job_runs::{Call, Case, Fault};
-use crate::job_words::{Job, Lines};
+use crate::job_words::{Job, Lines, Words};
 use crate::mesh_cases::recorded;
 use crate::numbers::LIMIT;
 use glam::vec3;
@@ -96,7 +96,7 @@ fn full_column() -> Column {
 }
 
 /// The lines of a job that is refused, with long lists and with none.
-fn refused(job: &Job, fault: Fault) -> Lines {
+pub(crate) fn refused<J: Words + Clone>(job: &J, fault: Fault) -> Lines {
     let case = Case::refused(job.clone(), fault);
     let calls = [Call::Plan, Call::Whole, Call::Face(0), Call::Face(999_999)];
     let runs = vec![case.run([64; 4], &calls), case.run([0; 4], &calls)];
@@ -152,7 +152,7 @@ fn shapes(base: &Job, faces: &[usize], later: impl Fn(&mut Job)) -> Vec<Lines> {
 }
 
 /// A pattern that changes from number to number.
-fn turned_pattern(at: usize) -> f32 {
+pub(crate) fn turned_pattern(at: usize) -> f32 {
     OUT_OF_RANGE[at % OUT_OF_RANGE.len()]
 }
 
@@ -175,7 +175,7 @@ fn out_of_range(
 }
 
 /// Each list one short and exact lists, with every call.
-fn rooms(case: &Case) -> Lines {
+pub(crate) fn rooms<J: Words>(case: &Case<J>) -> Lines {
     let shorts = (0..4).filter_map(|list| case.short(list));
     let mut calls = case.every_call().to_vec();
     calls.push(Call::Face(0));

@@ -5,7 +5,7 @@
 use crate::answers::{HexagonCase, QuadCase, When, hexagon, quad};
 use crate::builders::{Column, Plane};
 use crate::digest::{Digest, Lists};
-use crate::job_words::{Job, Lines};
+use crate::job_words::{Job, Lines, Words};
 use crate::mesh_cases::Column as CheapColumn;
 use crate::{FaceOptions, MeshInfo};
 use glam::Vec2;
@@ -33,13 +33,14 @@ pub enum Call {
 pub enum Fault {
     Shape = 1,
     Range = 2,
+    Neighbour = 3,
     Limit = 4,
 }
 
 /// A job and what it should come to.
 #[derive(Debug, Clone)]
-pub struct Case {
-    pub job: Job,
+pub struct Case<J = Job> {
+    pub job: J,
     pub fault: Option<Fault>,
     /// The vertex count and the index count of each face.
     pub faces: Vec<[usize; 2]>,
@@ -65,8 +66,12 @@ impl Case {
     pub fn column(case: &Column, mesh: &MeshInfo) -> Self {
         Self::done(case.into(), faces(case), mesh)
     }
+}
 
-    fn done(job: Job, faces: Vec<[usize; 2]>, mesh: &MeshInfo) -> Self {
+impl<J: Words> Case<J> {
+    /// A job that is done, with the counts of its faces and its mesh.
+    #[must_use]
+    pub fn done(job: J, faces: Vec<[usize; 2]>, mesh: &MeshInfo) -> Self {
         let case = Self {
             job,
             fault: None,
@@ -79,7 +84,7 @@ impl Case {
 
     /// A job that is refused, whatever the call.
     #[must_use]
-    pub fn refused(job: Job, fault: Fault) -> Self {
+    pub fn refused(job: J, fault: Fault) -> Self {
         Self {
             job,
             fault: Some(fault),
@@ -164,6 +169,7 @@ impl Case {
             Call::Whole => [0, self.faces.len()],
             Call::Face(face) => [face, face + 1],
         };
+        assert!(self.mesh.tells(), "a place may seem to be as it was");
         lists.lay(
             &self.mesh,
             lengths(self.start(from)),

@@ -11,6 +11,12 @@ use glam::{Vec2, Vec3};
 /// Lines of words.
 pub type Lines = Vec<Vec<u32>>;
 
+/// What the program `replay` reads of a job.
+pub trait Words {
+    /// The lines of its words.
+    fn lines(&self) -> Lines;
+}
+
 /// The words of a job.
 #[derive(Debug, Clone, Default)]
 pub struct Job {
@@ -46,7 +52,7 @@ impl From<&Plane> for Job {
             ..Self::standing(&case.standing)
         };
         job.choices[6] = choice(case.choice);
-        case.options.iter().for_each(|option| job.entry(option));
+        (job.numbers, job.marks) = table(&case.options);
         job
     }
 }
@@ -54,16 +60,17 @@ impl From<&Plane> for Job {
 impl From<&Column> for Job {
     fn from(case: &Column) -> Self {
         let [a, b, c, d, e, f] = case.sides.map(choice);
-        let mut job = Self {
+        let (numbers, marks) = table(&case.options);
+        Self {
             pairs: flat(case.ends.as_flattened()),
             corners: flat(&case.corners),
+            numbers,
+            marks,
             height: Some(case.height),
             subdivisions: case.subdivisions,
             choices: [a, b, c, d, e, f, choice(case.top), choice(case.bottom)],
             ..Self::standing(&case.standing)
-        };
-        case.options.iter().for_each(|option| job.entry(option));
-        job
+        }
     }
 }
 
@@ -79,23 +86,6 @@ impl Job {
         }
     }
 
-    /// One entry of the table more: nine numbers and four marks.
-    fn entry(&mut self, options: &FaceOptions) {
-        let FaceOptions { uv, insetting } = options;
-        let pairs = [uv.scale_factor, uv.offset, uv.rect.min, uv.rect.max];
-        self.numbers.extend(flat(&pairs));
-        self.numbers
-            .push(insetting.map_or(0.0, |inset| inset.scale));
-        self.marks.extend([uv.flip.x, uv.flip.y].map(u8::from));
-        self.marks.extend(insetting.map_or([0; 2], |inset| {
-            let kind = match inset.mode {
-                InsetScaleMode::Centroid => 1,
-                InsetScaleMode::SmallestEdge => 2,
-            };
-            [kind, u8::from(inset.keep_inner_face)]
-        }));
-    }
-
     /// Every number that a job carries, in turn.
     pub fn floats(&mut self) -> Vec<&mut f32> {
         let lists = [&mut self.pairs, &mut self.corners, &mut self.numbers];
@@ -107,11 +97,10 @@ impl Job {
         all.extend(self.offset.iter_mut().flatten());
         all
     }
+}
 
-    /// The lines of its words.
-    #[must_use]
-    pub fn lines(&self) -> Lines {
-        let floats = |all: &[f32]| all.iter().map(|&x| bits(x)).collect::<Vec<u32>>();
+impl Words for Job {
+    fn lines(&self) -> Lines {
         let lengths = [
             self.pairs.len(),
             self.corners.len(),
@@ -133,19 +122,46 @@ impl Job {
             floats(&self.pairs),
             floats(&self.corners),
             floats(&self.numbers),
-            self.marks.iter().map(|&mark| u32::from(mark)).collect(),
+            bytes(&self.marks),
             rest,
         ]
     }
 }
 
+/// The numbers and the marks of a table: nine and four an entry.
+pub(crate) fn table(options: &[FaceOptions]) -> (Vec<f32>, Vec<u8>) {
+    let (mut numbers, mut marks) = (Vec::new(), Vec::new());
+    for FaceOptions { uv, insetting } in options {
+        let pairs = [uv.scale_factor, uv.offset, uv.rect.min, uv.rect.max];
+        numbers.extend(flat(&pairs));
+        numbers.push(insetting.map_or(0.0, |inset| inset.scale));
+        marks.extend([uv.flip.x, uv.flip.y].map(u8::from));
+        marks.extend(insetting.map_or([0; 2], |inset| {
+            let kind = match inset.mode {
+                InsetScaleMode::Centroid => 1,
+                InsetScaleMode::SmallestEdge => 2,
+            };
+            [kind, u8::from(inset.keep_inner_face)]
+        }));
+    }
+    (numbers, marks)
+}
+
+pub(crate) fn floats(all: &[f32]) -> Vec<u32> {
+    all.iter().map(|&x| bits(x)).collect()
+}
+
+pub(crate) fn bytes(all: &[u8]) -> Vec<u32> {
+    all.iter().map(|&byte| u32::from(byte)).collect()
+}
+
 /// A mark, and what is supplied behind it.
-fn supplied(words: &mut Vec<u32>, what: Option<Vec<u32>>) {
+pub(crate) fn supplied(words: &mut Vec<u32>, what: Option<Vec<u32>>) {
     words.push(u32::from(what.is_some()));
     words.extend(what.unwrap_or_default());
 }
 
-fn choice(choice: Choice) -> u32 {
+pub(crate) fn choice(choice: Choice) -> u32 {
     match choice {
         Choice::Absent => 256,
         Choice::Default => 255,
@@ -153,6 +169,6 @@ fn choice(choice: Choice) -> u32 {
     }
 }
 
-fn flat(points: &[Vec2]) -> Vec<f32> {
+pub(crate) fn flat(points: &[Vec2]) -> Vec<f32> {
     points.iter().flat_map(|point| point.to_array()).collect()
 }

@@ -20,6 +20,15 @@ pub mod job_words;
 #[cfg(feature = "archive")]
 pub mod limits;
 pub mod line;
+pub mod map_cases;
+pub mod map_draws;
+pub mod map_faults;
+pub mod map_grounds;
+pub mod map_limits;
+pub mod map_runs;
+pub mod map_steps;
+pub mod map_words;
+pub mod maps;
 pub mod mesh_cases;
 pub mod mesh_record;
 pub mod numbers;

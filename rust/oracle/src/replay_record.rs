@@ -4,9 +4,10 @@
 
 use crate::builders::{Column, Plane};
 use crate::job_runs::Case;
-use crate::job_words::Lines;
+use crate::job_words::{Lines, Words};
+use crate::maps::Map;
 use crate::random::Random;
-use crate::{builder_cases, cases, job_faults, mesh_cases, value_words};
+use crate::{builder_cases, cases, job_faults, map_cases, map_faults, mesh_cases, value_words};
 use std::io::{self, Write};
 
 /// What ends a case.
@@ -18,6 +19,7 @@ pub struct Sets {
     pub faces: cases::Cases,
     pub planes: builder_cases::Cases<Plane>,
     pub columns: builder_cases::Cases<Column>,
+    pub maps: builder_cases::Cases<Map>,
 }
 
 /// The cases of the record.
@@ -28,6 +30,7 @@ pub fn recorded() -> Sets {
         faces: cases::recorded(),
         planes: builder_cases::recorded_planes(),
         columns: builder_cases::recorded_columns(),
+        maps: map_cases::recorded_maps(),
     }
 }
 
@@ -38,6 +41,7 @@ pub fn drawn(random: &mut Random, count: usize) -> Sets {
         faces: cases::drawn(random, count),
         planes: builder_cases::drawn_planes(random, count),
         columns: builder_cases::drawn_columns(random, count),
+        maps: map_cases::drawn_maps(random, count),
     }
 }
 
@@ -46,13 +50,26 @@ pub fn write(out: &mut impl Write, sets: &Sets) -> io::Result<()> {
     kind(out, "cheap", &cheap(&sets.meshes))?;
     kind(out, "planes", &planes(&sets.planes))?;
     kind(out, "columns", &columns(&sets.columns))?;
+    kind(out, "maps", &maps(&sets.maps))?;
     kind(out, "merges", &value_words::merges(&sets.meshes))?;
     kind(out, "stored", &value_words::stored(&sets.meshes))?;
     kind(out, "points", &value_words::points(&sets.faces))?;
     kind(out, "wraps", &value_words::wraps(&sets.faces))?;
-    kind(out, "quads", &value_words::quads(&sets.faces))?;
-    kind(out, "hexagons", &value_words::hexagons(&sets.faces))?;
     writeln!(out, "end")
+}
+
+/// The cases of the height maps.
+#[must_use]
+pub fn maps(cases: &builder_cases::Cases<Map>) -> Vec<Lines> {
+    let all = cases.plain.iter().chain(&cases.turned);
+    let mut all = done(all.map(Case::map));
+    all.extend(map_faults::maps());
+    all
+}
+
+/// Writes the part of the height maps alone.
+pub fn write_maps(out: &mut impl Write, maps: &[Lines]) -> io::Result<()> {
+    kind(out, "maps", maps)
 }
 
 fn kind(out: &mut impl Write, name: &str, cases: &[Lines]) -> io::Result<()> {
@@ -71,8 +88,8 @@ fn line(out: &mut impl Write, words: &[u32]) -> io::Result<()> {
 }
 
 /// The lines of each case that is done.
-fn done(cases: impl Iterator<Item = Case>) -> Vec<Lines> {
-    let lines = |(at, case): (usize, Case)| case.lines(case.runs(at));
+fn done<J: Words>(cases: impl Iterator<Item = Case<J>>) -> Vec<Lines> {
+    let lines = |(at, case): (usize, Case<J>)| case.lines(case.runs(at));
     cases.enumerate().map(lines).collect()
 }
 

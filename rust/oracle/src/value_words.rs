@@ -1,14 +1,14 @@
-//! Stored meshes, merges and single faces as the program `replay` reads them,
+//! Stored meshes, merges and single points as the program `replay` reads them,
 //! each with hexx's answer as a digest, and those that are refused.
 
-use crate::answers::{self, HexagonCase, QuadCase, When};
+use crate::answers;
 use crate::cases::Cases as FaceCases;
 use crate::digest::{Digest, Lists};
 use crate::job_faults::OUT_OF_RANGE;
 use crate::job_words::Lines;
 use crate::line::bits;
 use crate::mesh_cases::{Cases as MeshCases, Merge, recorded};
-use crate::{FaceOptions, InsetScaleMode, MeshInfo, UVOptions};
+use crate::{MeshInfo, UVOptions};
 use glam::{Vec2, Vec3};
 
 /// What is done to a stored mesh.
@@ -313,23 +313,6 @@ fn texture(words: &mut Vec<u32>, options: &UVOptions) {
     }
 }
 
-/// Texture, inset and whether the texture comes after it.
-fn options(words: &mut Vec<u32>, options: &FaceOptions, when: When) {
-    texture(words, &options.uv);
-    match options.insetting {
-        None => words.extend([0; 3]),
-        Some(inset) => words.extend([
-            match inset.mode {
-                InsetScaleMode::Centroid => 1,
-                InsetScaleMode::SmallestEdge => 2,
-            },
-            bits(inset.scale),
-            u32::from(inset.keep_inner_face),
-        ]),
-    }
-    words.push(u32::from(when == When::After));
-}
-
 /// A line of what a case is made of, and one of its digest.
 fn value(words: Vec<u32>, digest: Digest) -> Lines {
     vec![words, digest.words().to_vec()]
@@ -338,17 +321,6 @@ fn value(words: Vec<u32>, digest: Digest) -> Lines {
 fn point(altered: Vec2) -> Digest {
     let mut digest = Digest::default();
     digest.floats(&altered.to_array());
-    digest
-}
-
-/// Position, normal and uv of each vertex.
-fn face(mesh: &MeshInfo) -> Digest {
-    let mut digest = Digest::default();
-    for vertex in 0..mesh.vertices.len() {
-        digest.floats(&mesh.vertices[vertex].to_array());
-        digest.floats(&mesh.normals[vertex].to_array());
-        digest.floats(&mesh.uvs[vertex].to_array());
-    }
     digest
 }
 
@@ -369,35 +341,4 @@ pub fn points(cases: &FaceCases) -> Vec<Lines> {
 pub fn wraps(cases: &FaceCases) -> Vec<Lines> {
     let line = |at: &Vec2| value(at.to_array().map(bits).to_vec(), point(answers::wrap(*at)));
     cases.wraps.iter().map(line).collect()
-}
-
-/// Quads, bounded or not.
-#[must_use]
-pub fn quads(cases: &FaceCases) -> Vec<Lines> {
-    let line = |case: &QuadCase| {
-        let mut words: Vec<u32> = Vec::new();
-        for side in case.sides {
-            words.extend(side.to_array().map(bits));
-        }
-        words.extend(case.heights.map(bits));
-        words.push(u32::from(case.range.is_some()));
-        words.extend(case.range.into_iter().flatten().map(bits));
-        options(&mut words, &case.options, case.when);
-        value(words, face(&answers::quad(case)))
-    };
-    cases.quads.iter().map(line).collect()
-}
-
-/// Hexagons.
-#[must_use]
-pub fn hexagons(cases: &FaceCases) -> Vec<Lines> {
-    let line = |case: &HexagonCase| {
-        let mut words: Vec<u32> = Vec::new();
-        for corner in case.corners {
-            words.extend(corner.to_array().map(bits));
-        }
-        options(&mut words, &case.options, case.when);
-        value(words, face(&answers::hexagon(case)))
-    };
-    cases.hexagons.iter().map(line).collect()
 }

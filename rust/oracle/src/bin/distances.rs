@@ -1,5 +1,5 @@
 //! How far the written steps stand from hexx's own numbers where a job has a
-//! turn or a bottom. The jobs are those that `record-planes` and
+//! turn or a bottom. The planes and columns are those that `record-planes` and
 //! `record-columns` write for the same count and seed. That the proved code
 //! equals the written steps bit by bit is held on other jobs, drawn alike: by
 //! `compare`, and by `replay` on what `record-jobs` writes.
@@ -10,6 +10,9 @@ use oracle::arguments;
 use oracle::builder_cases::{drawn_columns, drawn_planes};
 use oracle::builders::Choice;
 use oracle::line::bits;
+use oracle::map_draws::drawn_map;
+use oracle::map_steps::{OVER_HEXX, magnitude, range, whole};
+use oracle::maps::Map;
 use oracle::random::Random;
 use std::io;
 
@@ -49,7 +52,26 @@ fn main() -> io::Result<()> {
         println!("{name}, up to {MODERATE}: {moderate}");
         println!("{name}, beyond: {great}");
     }
+    maps(count, seed);
     Ok(())
+}
+
+/// The same of height maps. Each is given its range, since hexx may have
+/// another sign of a zero end.
+fn maps(count: usize, seed: u64) {
+    let mut random = Random::new(seed);
+    let mut groups = [const { Greatest::NONE }; 2];
+    for _ in 0..count {
+        let map = drawn_map(&mut random, true);
+        let range = Some(range(&OVER_HEXX, &map));
+        let map = Map { range, ..map };
+        let most = magnitude(&map);
+        let written = MeshInfo::from(&whole(&OVER_HEXX, &map));
+        groups[usize::from(most > MODERATE)].add(&map.hexx(), &written, most);
+    }
+    let [moderate, great] = groups;
+    println!("maps with a turn, up to {MODERATE}: {moderate}");
+    println!("maps with a turn, beyond: {great}");
 }
 
 /// How many meshes differ in a bit.

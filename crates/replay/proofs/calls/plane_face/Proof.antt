@@ -1,12 +1,12 @@
--- `replay::calls::lend_plan` is safe: what is lent lies within its list. Assumes nothing.
+-- `replay::calls::plane_face` is safe: what is lent lies within its list. Assumes nothing.
 use native.Mathlib.Omega.{arith}
 use lib.ListN.{length-take}
 use borrow.Author.Needs.{needs}
-use Rattle.replay.proofs.calls.lend_plan.Statement.{statement}
-use Rattle.replay.proofs.calls.lend_plan.Tie as tie
+use Rattle.replay.proofs.calls.plane_face.Statement.{statement}
+use Rattle.replay.proofs.calls.plane_face.Tie as tie
 
-pub lend-plan-spec : {M : Type 1} → statement M
-lend-plan-spec =
+pub plane-face-spec : {M : Type 1} → statement M
+plane-face-spec =
     tie.close
     (tie.spec
     (λ c. search needs)

@@ -1,16 +1,14 @@
--- `replay::calls::lend` is safe: what is lent lies within its list. Assumes nothing.
+-- `replay::calls::share` is safe: what is lent lies within its list. Assumes nothing.
 use native.Mathlib.Omega.{arith}
 use lib.ListN.{length-take}
 use borrow.Author.Needs.{needs}
-use Rattle.replay.proofs.calls.lend.Statement.{statement}
-use Rattle.replay.proofs.calls.lend.Tie as tie
+use Rattle.replay.proofs.calls.share.Statement.{statement}
+use Rattle.replay.proofs.calls.share.Tie as tie
 
-pub lend-spec : {M : Type 1} → statement M
-lend-spec =
+pub share-spec : {M : Type 1} → statement M
+share-spec =
     tie.close
     (tie.spec
-    (λ c. search needs)
-    (λ c. simp length-take (omega arith))
     (λ c. search needs)
     (λ c. simp length-take (omega arith))
     (λ c. search needs)
