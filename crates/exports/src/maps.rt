@@ -1,5 +1,6 @@
-// A height map: 27 numbers a cell, six neighbours a cell, six fringe heights and seven option numbers a cell if they are
-// listed, six cap corners in a list of twelve, and a table of options in two lists.
+// A height map: 27 numbers a cell (its height, its position, of each side the left end and the right, all x and z), six
+// neighbours a cell, six fringe heights and seven option numbers a cell if they are listed, six cap corners in a list of
+// twelve, and a table of options in two lists.
 ghost use mathlib.Core.Path.{_≡_};
 ghost use Rattle.buffers.specs.Lent.{entering, become};
 ghost use Rattle.heightmap.specs.HeightMap.{lent};

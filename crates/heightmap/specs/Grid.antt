@@ -22,7 +22,7 @@ use Rattle.heightmap.specs.declared.Wall.{Wall}
 use Rattle.heightmap.specs.declared.Wall.the-variants.{SidesOff, NothingBeyond, AsHigh, Present}
 use Rattle.heightmap.specs.declared.HeightMap.{HeightMap}
 
--- B11, B12: what the layout's owner lends: 27 numbers a cell (height, position, the left and the right end of six sides),
+-- B11, B12: what the layout's owner lends: 27 numbers a cell (height, position, of each side the left end and the right),
 -- six neighbours a cell, and six heights a cell beyond the edge
 pub record Grid : Type 0 where
   pub cells : List Float
@@ -113,7 +113,7 @@ present NothingBeyond = false
 present (AsHigh beyond) = false
 present (Present beyond) = true
 
--- the height that a wall stands on; asked only where it is present
+-- the height that a wall stands on; of one that is not there, the height beyond it, or NaN
 abbrev pub footOf : Wall → Float
 footOf SidesOff = nan
 footOf NothingBeyond = nan

@@ -1,5 +1,5 @@
--- What is tested of a height map before its faces are counted, and its plan; N5 to R18 are rows of docs/TRACE.md.
--- Definitions only.
+-- What is tested of a height map before its faces are counted, and its plan; N5, N8, N9, B15, R1 to R3, R11 and R18 are
+-- rows of docs/TRACE.md. Definitions only.
 use Prim.Native.Nat.{ℕ}
 use mathlib.Core.Bool.{Bool, true, _&&_}
 use mathlib.Core.List.{List}

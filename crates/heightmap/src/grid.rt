@@ -1,5 +1,5 @@
 // The cells as they are lent, the range of their heights, and why a side is there or is not. Every reader tests how many
-// cells a list has before it multiplies, so any cell and any side may be asked for.
+// cells a list has before it multiplies, so any cell and any side may be asked for; a side above 5 reads on.
 ghost use mathlib.Core.Path.{_≡_};
 ghost use mathlib.Core.List.{[]};
 ghost use Prim.Native.Nat.{_+_, _*_, _≤_, _<_};

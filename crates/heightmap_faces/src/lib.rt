@@ -117,7 +117,7 @@ pub fn top_of(corners: &[f32], o: FaceOptions) -> Top
     }
 }
 
-// The position comes first in the sum, so that -0 stays where the product with 0 gives it.
+// Added to the cell's position and not to zero first, so that the -0 of 0 times a height below 0 can stay.
 pub fn cap_offset(at: Vec2, height: f32) -> Vec3
     ensures { λ r. ⌜ r ≡ capOffset at height ⌝ }
 {

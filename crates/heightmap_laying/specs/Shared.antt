@@ -1,5 +1,5 @@
--- The faces of a height map by what they share, which speed alone asks for; proofs/Laid.antt says that they are the
--- map's own. Definitions only.
+-- The faces of a height map by what they share, which speed alone asks for; proofs/Walls.antt and Cells.antt say that
+-- they are the map's own. Definitions only.
 use Prim.Native.Nat.{ℕ}
 use mathlib.Core.Bool.{cond}
 use mathlib.Core.List.{List, [], _∷_, _++_, map}

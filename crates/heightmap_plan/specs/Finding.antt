@@ -22,7 +22,7 @@ use Rattle.heightmap_plan.specs.Walking.{tallyOf}
 abbrev pub foundBy : Name → Counts → Found
 foundBy n c = record { name = n; start = c }
 
--- past the last face the first cap's name, and the end of all faces
+-- past the last face the first cap's name, and the end of all faces; with too many cells that name and no counts
 abbrev pub foundAt : HeightMap → Lists → ℕ → Found
 foundAt job ls i = cond (cellCount (cellsIn (ls .grid .cells))) (foundBy (nameAt job (ls .grid) i) (startBy job ls i)) (foundBy (Cap 0) none)
 

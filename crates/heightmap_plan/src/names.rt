@@ -250,7 +250,7 @@ fn number_of_side(
     before + (crate::tally::caps_in(caps, 1) + walls)
 }
 
-// The number of a face that is there; 0 where no map has its cell.
+// The number of a face that is there; 0 where the number of its cell is above 65,536.
 pub fn number_of(
     job: HeightMap,
     name: Name,

@@ -1,5 +1,5 @@
 // How many faces a map has and what they take, in one walk over its cells. The same walk finds the cell of a face by its
-// number, so that a call for one face walks once.
+// number; a call for one face makes it after the plan's.
 ghost use mathlib.Core.Path.{_≡_};
 ghost use mathlib.Core.Bool.{cond};
 ghost use mathlib.Core.List.{[]};
@@ -498,7 +498,7 @@ pub fn tally_all(
     nothing()
 }
 
-// Where the faces of a cell start; the start of a map where the number is no cell's of any map.
+// Where the faces of a cell start; past the last cell caps go on being counted, and above 65,536 nothing is.
 pub fn cell_start(
     job: heightmap::HeightMap,
     k: usize,

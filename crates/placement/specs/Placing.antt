@@ -1,4 +1,4 @@
--- Where a face stands; B7 to B9 and B18 to B20 are rows of docs/TRACE.md. Definitions only.
+-- Where a face stands; B6 to B9 and B18 to B20 are rows of docs/TRACE.md. Definitions only.
 use mathlib.Core.Bool.{Bool, true, false, _&&_, cond}
 use lib.Ieee.{Float, neg}
 use Rattle.face.specs.declared.vec.Vec2.{Vec2}

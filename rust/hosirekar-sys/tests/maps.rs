@@ -1,4 +1,4 @@
-//! Height maps at their limits, which sides stand, and one fault of every kind beside each other: the first in the order
+//! Height maps at their limits, which sides stand, and faults beside each other: the first in the order
 //! 1, 2, 3, 4, 6, 5 gives the number, and every place of the lists stays as it was.
 
 mod common;
