@@ -1,11 +1,8 @@
-// The option of each face, and where the faces stand.
+// The option of each face, and where the sides stand.
 ghost use mathlib.Core.Path.{_≡_};
-ghost use mathlib.Core.Bool.{false};
 ghost use Prim.Native.Nat.{_+_, _*_, _≤_};
-ghost use Rattle.placement.specs.declared.placement.Choice3.the-variants.{With};
 ghost use Rattle.face.specs.Vec.{flat};
-ghost use Rattle.placement.specs.Placing.{standFrom};
-ghost use Rattle.heightmap.specs.HeightMap.{lentForOptions, customAt, customPlace, ownChoice, chosen, optionOf, originOf, sideStand, capOffset};
+ghost use Rattle.heightmap.specs.HeightMap.{lentForOptions, customAt, customPlace, ownChoice, chosen, optionOf, originOf, sideStand};
 use face::vec::Vec2;
 use face::vec::Vec3;
 use placement::options::Choice;
@@ -94,26 +91,4 @@ pub fn side_stand(job: crate::HeightMap) -> Stand
     let s = job.placement;
     let origin = job.origin;
     placement::placement::stand_from(origin_of(origin), Choice3::Absent, false, s)
-}
-
-// Added to the cell's position, so that the -0 of 0 times a height below 0 can stay.
-fn cap_offset(position: Vec2, height: f32) -> Vec3
-    ensures { λ r. ⌜ r ≡ capOffset position height ⌝ }
-{
-    let up = Vec3 {
-        x: 0.0 * height,
-        y: height,
-        z: 0.0 * height,
-    };
-    face::vec::add3(ground(position), up)
-}
-
-// The cap of a cell at this position and of this height.
-pub fn cap_stand(job: crate::HeightMap, position: Vec2, height: f32) -> Stand
-    ensures { λ r. ⌜ r ≡ standFrom (originOf (job .origin)) (With (capOffset position height)) false (job .placement) ⌝ }
-{
-    let s = job.placement;
-    let origin = job.origin;
-    let first = cap_offset(position, height);
-    placement::placement::stand_from(origin_of(origin), Choice3::With(first), false, s)
 }

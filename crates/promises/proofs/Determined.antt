@@ -464,9 +464,6 @@ heightmap-options-origin-of κs a x y v w p q = (determined p q, refl)
 pub heightmap-options-side-stand : Fixes heightmap.options.side_stand.ended heightmap.options.side_stand.Reads.Learnt
 heightmap-options-side-stand κs a x y v w p q = (determined p q, refl)
 
-pub heightmap-options-cap-stand : Fixes heightmap.options.cap_stand.ended heightmap.options.cap_stand.Reads.Learnt
-heightmap-options-cap-stand κs a x y v w p q = (determined p q, refl)
-
 -- ---- heightmap_builder
 pub heightmap-builder-plan : Fixes heightmap_builder.plan.ended heightmap_builder.plan.Reads.Learnt
 heightmap-builder-plan κs a x y v w p q = (determined p q, refl)
