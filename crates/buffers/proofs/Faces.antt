@@ -23,8 +23,6 @@ use Rattle.face.proofs.Filling.{length-each}
 use Rattle.face.proofs.Laws.{index-count}
 use Rattle.placement.specs.declared.placement.Stand.{Stand}
 use Rattle.placement.specs.Placing.{stood, stoodNormal}
-use Rattle.placement.specs.Speed.{shiftsAlone, shiftOf}
-use Rattle.placement.proofs.Shifts.{shift-stands}
 use Rattle.buffers.specs.Mesh.{Vertex, Mesh, also, sizeOf}
 use Rattle.buffers.specs.Laying.{Buffers, four, three, two, corners, spread, laid, lay, fits, laidIfFits}
 use Rattle.buffers.specs.Faces.{vertexAt, faceOf, quadMesh, hexagonMesh, stoodVertex, standing, wallMesh}
@@ -40,16 +38,22 @@ pub map-each : {A B : Type 0} (g : ℕ → A) (f : A → B) (n : ℕ) → map f 
 map-each g f zero = refl
 map-each g f (suc n) = rw (map-append, map-each g f n)
 
--- ---- points that are only moved stand so
-pub shifted-laid : (t : Stand) → shiftsAlone t ≡ true → (ps : List Vec3) (l : List Float) (at m : ℕ)
-    → laid l at (chain (λ k. three (shiftOf t (getD ps k off3))) m) ≡ laid l at (chain (λ k. three (stood t (getD ps k off3))) m)
-shifted-laid t e ps l at m = ap (laid l at) (go m)
-  where
-    go : (n : ℕ) → chain (λ k. three (shiftOf t (getD ps k off3))) n ≡ chain (λ k. three (stood t (getD ps k off3))) n
-    go zero = refl
-    go (suc n) = rw (go n, shift-stands t e (getD ps n off3))
+-- ---- m vertices with the triangles tris, and so a face where it stands
+pub vertices-laid : (v : ℕ → Vertex) (m : ℕ) (tris : List Triangle) (k : ℕ) → length tris ≡ k → (at : Counts) (B : Buffers)
+    → lay (record { vertices = each v m; triangles = tris }) at B
+    ≡ four
+    (laid (B .vertices) (3 * at .vertices .0) (chain (λ j. three (v j .position)) m))
+    (laid (B .normals) (3 * at .vertices .0) (chain (λ j. three (v j .normal)) m))
+    (laid (B .uvs) (2 * at .vertices .0) (chain (λ j. two (v j .uv)) m))
+    (laid (B .indices) (at .indices .0) (chain (λ j. corners (at .vertices .0) (getD tris j noTriangle)) k))
+unfolding lay
+vertices-laid v m tris k e at B =
+    same-four
+    (ap (laid (B .vertices) (3 * at .vertices .0)) (spread-each (λ (w : Vertex). three (w .position)) v m))
+    (ap (laid (B .normals) (3 * at .vertices .0)) (spread-each (λ (w : Vertex). three (w .normal)) v m))
+    (ap (laid (B .uvs) (2 * at .vertices .0)) (spread-each (λ (w : Vertex). two (w .uv)) v m))
+    (ap (laid (B .indices) (at .indices .0)) (spread-all (corners (at .vertices .0)) tris noTriangle k e))
 
--- ---- a face of m points with the triangles tris, where it stands
 module _ (t : Stand) (m : ℕ) (ps : List Vec3) (n : Vec3) (ts : List Vec2) (tris : List Triangle) where
   face-laid : (k : ℕ) → length tris ≡ k → (at : Counts) (B : Buffers) → lay (standing t (faceOf m ps n ts tris)) at B
       ≡ four
@@ -57,16 +61,11 @@ module _ (t : Stand) (m : ℕ) (ps : List Vec3) (n : Vec3) (ts : List Vec2) (tri
       (laid (B .normals) (3 * at .vertices .0) (chain (λ j. three (stoodNormal t n)) m))
       (laid (B .uvs) (2 * at .vertices .0) (chain (λ j. two (getD ts j off2)) m))
       (laid (B .indices) (at .indices .0) (chain (λ j. corners (at .vertices .0) (getD tris j noTriangle)) k))
-  unfolding lay
   face-laid k e at B =
-      let w = map-each (vertexAt ps n ts) (stoodVertex t) m in
-      same-four
-      (ap (laid (B .vertices) (3 * at .vertices .0)) (ap (spread (λ (w : Vertex). three (w .position))) w ∙ spread-each (λ (w : Vertex). three (w .position)) (λ j. stoodVertex t (vertexAt ps n ts j)) m))
-      (ap (laid (B .normals) (3 * at .vertices .0)) (ap (spread (λ (w : Vertex). three (w .normal))) w ∙ spread-each (λ (w : Vertex). three (w .normal)) (λ j. stoodVertex t (vertexAt ps n ts j)) m))
-      (ap (laid (B .uvs) (2 * at .vertices .0)) (ap (spread (λ (w : Vertex). two (w .uv))) w ∙ spread-each (λ (w : Vertex). two (w .uv)) (λ j. stoodVertex t (vertexAt ps n ts j)) m))
-      (ap (laid (B .indices) (at .indices .0)) (spread-all (corners (at .vertices .0)) tris noTriangle k e))
+      ap (λ (vs : List Vertex). lay (record { vertices = vs; triangles = tris }) at B) (map-each (vertexAt ps n ts) (stoodVertex t) m)
+      ∙ vertices-laid (λ j. stoodVertex t (vertexAt ps n ts j)) m tris k e at B
 
-face-size : (m : ℕ) (ps : List Vec3) (n : Vec3) (ts : List Vec2) (tris : List Triangle) → sizeOf (faceOf m ps n ts tris) ≡ counts m (3 * length tris)
+pub face-size : (m : ℕ) (ps : List Vec3) (n : Vec3) (ts : List Vec2) (tris : List Triangle) → sizeOf (faceOf m ps n ts tris) ≡ counts m (3 * length tris)
 face-size m ps n ts tris = ap (λ (k : ℕ). counts k (3 * length tris)) (length-each (vertexAt ps n ts) m)
 
 -- ---- what an inset's counts are: few, and the triangles' number is a third of the indices'

@@ -4,5 +4,6 @@ pub mod Rooms
 pub mod Windows
 pub mod Joined
 pub mod Faces
+pub mod PlainFaces
 pub mod Each
 pub mod Named

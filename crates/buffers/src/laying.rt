@@ -6,13 +6,14 @@ ghost use Prim.Native.Nat.{_+_, _*_, _≤_};
 ghost use lib.ListN.{length, getD};
 ghost use Rattle.face.specs.Lists.{chain};
 ghost use Rattle.face.specs.Vec.{off2, off3};
-ghost use Rattle.face.specs.Triangles.{insetTriangles, insetCounts, quadTriangles, hexagonTriangles};
+ghost use Rattle.face.specs.Triangles.{insetTriangles, insetCounts, counts, noTriangle, quadTriangles, hexagonTriangles};
 ghost use Rattle.placement.specs.Placing.{stood};
-ghost use Rattle.placement.specs.Speed.{shiftOf};
 ghost use Rattle.buffers.specs.Mesh.{also, sizeOf};
 ghost use Rattle.buffers.specs.Laying.{four, three, two, corners, firstCorners, laid, lay, reachesFloats, reaches, fits, laidIfFits};
 ghost use Rattle.buffers.specs.Lent.{lending, entering, become};
+ghost use Rattle.buffers.specs.Plain.{Plainly, plainTriangles, plainMesh};
 ghost use Rattle.buffers.specs.Faces.{standing, quadMesh, hexagonMesh, wallMesh};
+use crate::plain::Plain;
 use face::face::Quad;
 use face::inset::Inset;
 use face::inset::InsetHexagon;
@@ -110,66 +111,15 @@ fn put_normals(buffer: &mut [f32], at: usize, normal: Vec3, m: usize)
     }
 }
 
-fn put_eight_stood(buffer: &mut [f32], at: usize, t: Stand, ps: [Vec3; 8], m: usize)
-    requires { ⌜ (m ≤ 8) × (at + 3 * m ≤ length (now buffer)) ⌝ }
-    ensures { λ _. ⌜ now (buffer .exit) ≡ laid (now (buffer .entry)) at (chain (λ k. three (stood t (getD ps k off3))) m) ⌝ }
-{
-    for k in 0usize..m {
-        put3(
-            buffer,
-            at + 3 * k,
-            placement::placement::stand_point(t, ps[k]),
-        );
-    }
-}
-
-fn put_eight_shifted(buffer: &mut [f32], at: usize, t: Stand, ps: [Vec3; 8], m: usize)
-    requires { ⌜ (m ≤ 8) × (at + 3 * m ≤ length (now buffer)) ⌝ }
-    ensures { λ _. ⌜ now (buffer .exit) ≡ laid (now (buffer .entry)) at (chain (λ k. three (shiftOf t (getD ps k off3))) m) ⌝ }
-{
-    for k in 0usize..m {
-        put3(
-            buffer,
-            at + 3 * k,
-            placement::placement::shift_point(t, ps[k]),
-        );
-    }
-}
-
-// A face that is only moved has a loop of its own: the steps between would be formed for every point, and dropped.
 fn put_eight(buffer: &mut [f32], at: usize, t: Stand, ps: [Vec3; 8], m: usize)
     requires { ⌜ (m ≤ 8) × (at + 3 * m ≤ length (now buffer)) ⌝ }
     ensures { λ _. ⌜ now (buffer .exit) ≡ laid (now (buffer .entry)) at (chain (λ k. three (stood t (getD ps k off3))) m) ⌝ }
 {
-    if placement::placement::is_shift(t) {
-        put_eight_shifted(buffer, at, t, ps, m);
-    } else {
-        put_eight_stood(buffer, at, t, ps, m);
-    }
-}
-
-fn put_twelve_stood(buffer: &mut [f32], at: usize, t: Stand, ps: [Vec3; 12], m: usize)
-    requires { ⌜ (m ≤ 12) × (at + 3 * m ≤ length (now buffer)) ⌝ }
-    ensures { λ _. ⌜ now (buffer .exit) ≡ laid (now (buffer .entry)) at (chain (λ k. three (stood t (getD ps k off3))) m) ⌝ }
-{
     for k in 0usize..m {
         put3(
             buffer,
             at + 3 * k,
             placement::placement::stand_point(t, ps[k]),
-        );
-    }
-}
-
-fn put_twelve_shifted(buffer: &mut [f32], at: usize, t: Stand, ps: [Vec3; 12], m: usize)
-    requires { ⌜ (m ≤ 12) × (at + 3 * m ≤ length (now buffer)) ⌝ }
-    ensures { λ _. ⌜ now (buffer .exit) ≡ laid (now (buffer .entry)) at (chain (λ k. three (shiftOf t (getD ps k off3))) m) ⌝ }
-{
-    for k in 0usize..m {
-        put3(
-            buffer,
-            at + 3 * k,
-            placement::placement::shift_point(t, ps[k]),
         );
     }
 }
@@ -178,10 +128,12 @@ fn put_twelve(buffer: &mut [f32], at: usize, t: Stand, ps: [Vec3; 12], m: usize)
     requires { ⌜ (m ≤ 12) × (at + 3 * m ≤ length (now buffer)) ⌝ }
     ensures { λ _. ⌜ now (buffer .exit) ≡ laid (now (buffer .entry)) at (chain (λ k. three (stood t (getD ps k off3))) m) ⌝ }
 {
-    if placement::placement::is_shift(t) {
-        put_twelve_shifted(buffer, at, t, ps, m);
-    } else {
-        put_twelve_stood(buffer, at, t, ps, m);
+    for k in 0usize..m {
+        put3(
+            buffer,
+            at + 3 * k,
+            placement::placement::stand_point(t, ps[k]),
+        );
     }
 }
 
@@ -350,4 +302,122 @@ pub fn lay_hexagon(
         return true;
     }
     false
+}
+
+// Of a face without an inset: the first m of its points, its uvs and its triangles.
+fn put_six(buffer: &mut [f32], at: usize, ps: [Vec3; 6], m: usize)
+    requires { ⌜ (m ≤ 6) × (at + 3 * m ≤ length (now buffer)) ⌝ }
+    ensures { λ _. ⌜ now (buffer .exit) ≡ laid (now (buffer .entry)) at (chain (λ k. three (getD ps k off3)) m) ⌝ }
+{
+    for k in 0usize..m {
+        put3(buffer, at + 3 * k, ps[k]);
+    }
+}
+
+fn put_six_uvs(buffer: &mut [f32], at: usize, ts: [Vec2; 6], m: usize)
+    requires { ⌜ (m ≤ 6) × (at + 2 * m ≤ length (now buffer)) ⌝ }
+    ensures { λ _. ⌜ now (buffer .exit) ≡ laid (now (buffer .entry)) at (chain (λ k. two (getD ts k off2)) m) ⌝ }
+{
+    for k in 0usize..m {
+        put2(buffer, at + 2 * k, ts[k]);
+    }
+}
+
+fn plain_triangle(m: usize, k: usize) -> Triangle
+    ensures { λ r. ⌜ r ≡ getD (plainTriangles m) k noTriangle ⌝ }
+{
+    if m == 4 {
+        return face::triangle::quad_triangle(Inset::None, k);
+    }
+    face::triangle::hexagon_triangle(Inset::None, k)
+}
+
+fn put_plain_triangles(buffer: &mut [u16], at: IndexPlace, b: VertexNumber, m: usize, n: usize)
+    requires { ⌜ Plainly m n × ((b .0 + m ≤ 65536) × (at .0 + 3 * n ≤ length (now buffer))) ⌝ }
+    ensures { λ _. ⌜ now (buffer .exit) ≡ laid (now (buffer .entry)) (at .0) (firstCorners (b .0) (plainTriangles m) n) ⌝ }
+{
+    for k in 0usize..n {
+        let t = plain_triangle(m, k);
+        put_corners(buffer, IndexPlace(at.0 + 3 * k), b, t);
+    }
+}
+
+fn put_plain(
+    m: usize,
+    n: usize,
+    f: Plain,
+    at: Counts,
+    vertices: &mut [f32],
+    normals: &mut [f32],
+    uvs: &mut [f32],
+    indices: &mut [u16],
+)
+    requires { ⌜ Plainly m n × (fits at (counts m (3 * n)) (lending vertices normals uvs indices) ≡ true) ⌝ }
+    ensures { λ _. ⌜ become (lay (plainMesh m f) at) vertices normals uvs indices ⌝ }
+{
+    let b = at.vertices.0;
+    let ps = f.positions;
+    let ts = f.uvs;
+    put_six(vertices, 3 * b, ps, m);
+    put_normals(normals, 3 * b, f.normal, m);
+    put_six_uvs(uvs, 2 * b, ts, m);
+    put_plain_triangles(indices, at.indices, at.vertices, m, n);
+}
+
+// Of m points and n triangles.
+fn lay_plain(
+    m: usize,
+    n: usize,
+    f: Plain,
+    at: Counts,
+    vertices: &mut [f32],
+    normals: &mut [f32],
+    uvs: &mut [f32],
+    indices: &mut [u16],
+)
+    requires { ⌜ Plainly m n ⌝ }
+    ensures { λ _. ⌜ become (laidIfFits (plainMesh m f) at) vertices normals uvs indices ⌝ }
+{
+    let size = Counts {
+        vertices: VertexNumber(m),
+        indices: IndexPlace(3 * n),
+    };
+    if has_room(
+        at,
+        size,
+        vertices.len(),
+        normals.len(),
+        uvs.len(),
+        indices.len(),
+    ) {
+        put_plain(m, n, f, at, vertices, normals, uvs, indices);
+    }
+}
+
+// A quad without an inset, as it stands, if there is room.
+pub fn lay_plain_quad(
+    f: Plain,
+    at: Counts,
+    vertices: &mut [f32],
+    normals: &mut [f32],
+    uvs: &mut [f32],
+    indices: &mut [u16],
+)
+    ensures { λ _. ⌜ become (laidIfFits (plainMesh 4 f) at) vertices normals uvs indices ⌝ }
+{
+    lay_plain(4, 2, f, at, vertices, normals, uvs, indices);
+}
+
+// The same of a hexagon.
+pub fn lay_plain_hexagon(
+    f: Plain,
+    at: Counts,
+    vertices: &mut [f32],
+    normals: &mut [f32],
+    uvs: &mut [f32],
+    indices: &mut [u16],
+)
+    ensures { λ _. ⌜ become (laidIfFits (plainMesh 6 f) at) vertices normals uvs indices ⌝ }
+{
+    lay_plain(6, 4, f, at, vertices, normals, uvs, indices);
 }

@@ -1,5 +1,5 @@
 -- Insets, over a face of any number of points; I1 to I5 are rows of docs/TRACE.md. Definitions only.
-use mathlib.Core.Bool.{cond}
+use mathlib.Core.Bool.{Bool, true, false, cond}
 use Prim.Native.Nat.{ℕ, _+_, _-_, _%_}
 use mathlib.Core.List.{List, _++_, map}
 use lib.ListN.{length, getD}
@@ -79,6 +79,11 @@ edged3 k ps = each (pointAt k ps (length ps)) (length ps)
 
 abbrev pub edged2 : Float → List Vec3 → List Vec2 → List Vec2
 edged2 k ps ts = each (uvAt k ps ts (length ps)) (length ps)
+
+abbrev pub isNone : Inset → Bool
+isNone None = true
+isNone (Centroid k keep) = false
+isNone (SmallestEdge k keep) = false
 
 -- ---- I1: the inner face; with no inset it is the face itself, and is not laid
 
