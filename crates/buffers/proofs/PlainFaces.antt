@@ -10,12 +10,14 @@ use lib.ListN.{length, getD}
 use lib.Ieee.{Float}
 use Rattle.face.specs.declared.vec.Vec3.{Vec3}
 use Rattle.face.specs.declared.face.Quad.{Quad}
-use Rattle.face.specs.declared.inset.Inset.the-variants.{None}
+use Rattle.face.specs.declared.inset.Inset.{Inset}
+use Rattle.face.specs.declared.inset.Inset.the-variants.{None, Centroid, SmallestEdge}
 use Rattle.face.specs.declared.inset.InsetHexagon.{InsetHexagon}
 use Rattle.face.specs.declared.triangle.Triangle.{Triangle}
 use Rattle.face.specs.declared.triangle.Counts.{Counts}
 use Rattle.face.specs.Lists.{each, chain}
 use Rattle.face.specs.Vec.{off2, off3}
+use Rattle.face.specs.Inset.{isNone}
 use Rattle.face.specs.Triangles.{counts, noTriangle, quadTriangles, hexagonTriangles}
 use Rattle.face.proofs.Laws.{Below, quad-indices-below, hexagon-indices-below}
 use Rattle.placement.specs.declared.placement.Stand.{Stand}
@@ -31,13 +33,17 @@ use Rattle.buffers.proofs.Faces.{vertices-laid, face-size}
 use Rattle.buffers.proofs.Rooms.{room-is}
 
 -- ---- it is the face
-pub plain-wall : (t : Stand) (q : Quad) → plainMesh 4 (stoodQuad t q) ≡ wallMesh t None q
+pub plain-wall : (t : Stand) (how : Inset) (q : Quad) → isNone how ≡ true → plainMesh 4 (stoodQuad t q) ≡ wallMesh t how q
 unfolding quadMesh
-plain-wall t q = refl
+plain-wall t None q e = refl
+plain-wall t (Centroid k keep) q e = let p : false ≡ true = e in let z : _≡_ {A = ℕ} 0 1 = cc in absurd (omega arith)
+plain-wall t (SmallestEdge k keep) q e = let p : false ≡ true = e in let z : _≡_ {A = ℕ} 0 1 = cc in absurd (omega arith)
 
-pub plain-cap : (t : Stand) (h : InsetHexagon) → plainMesh 6 (stoodHexagon t h) ≡ standing t (hexagonMesh None h)
+pub plain-cap : (t : Stand) (how : Inset) (h : InsetHexagon) → isNone how ≡ true → plainMesh 6 (stoodHexagon t h) ≡ standing t (hexagonMesh how h)
 unfolding hexagonMesh
-plain-cap t h = refl
+plain-cap t None h e = refl
+plain-cap t (Centroid k keep) h e = let p : false ≡ true = e in let z : _≡_ {A = ℕ} 0 1 = cc in absurd (omega arith)
+plain-cap t (SmallestEdge k keep) h e = let p : false ≡ true = e in let z : _≡_ {A = ℕ} 0 1 = cc in absurd (omega arith)
 
 -- what is only moved stands so
 pub points-shifted : (t : Stand) → shiftsAlone t ≡ true → (ps : List Vec3) → pointsBy (shiftOf t) ps ≡ pointsBy (stood t) ps

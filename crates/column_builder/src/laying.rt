@@ -1,7 +1,10 @@
 // The faces of a column laid into four buffers, each where it fits: one by its name, or all of them end to end.
 ghost use mathlib.Core.Path.{_≡_};
+ghost use mathlib.Core.Bool.{_&&_};
 ghost use Prim.Native.Nat.{_+_, _≤_, _<_, _^_};
+ghost use Rattle.face.specs.Inset.{isNone};
 ghost use Rattle.face.specs.Lists.{each};
+ghost use Rattle.placement.specs.Speed.{shiftsAlone};
 ghost use Rattle.buffers.specs.Mesh.{also, measure};
 ghost use Rattle.buffers.specs.Laying.{laidIfFits, layEach};
 ghost use Rattle.buffers.specs.Lent.{become};
@@ -13,6 +16,7 @@ use column::Column;
 use column::Name;
 use column::names::Piece;
 use column::wall::Wall;
+use face::inset::Inset;
 use face::triangle::Counts;
 use face::triangle::IndexPlace;
 use face::triangle::VertexNumber;
@@ -29,7 +33,17 @@ fn add(a: Counts, b: Counts) -> Counts
     }
 }
 
-// A part of a side, laid at a place. The one call of `lay_wall`, so that the compiler makes and lays a part at one go.
+// Whether a part has no inset and is only moved, as nearly every one is.
+fn is_plain(t: Stand, how: Inset) -> bool
+    ensures { λ r. ⌜ r ≡ isNone how && shiftsAlone t ⌝ }
+{
+    if face::inset::is_none(how) {
+        return placement::placement::is_shift(t);
+    }
+    false
+}
+
+// A part of a side, of a whole build. It has one call, so that the compiler makes and lays a part at one go.
 fn put_part(
     w: Wall,
     p: u32,
@@ -43,8 +57,14 @@ fn put_part(
 {
     let stand = w.stand;
     let inset = w.inset;
-    let q = column::wall::part_at(w, p);
-    buffers::laying::lay_wall(stand, inset, q, at, vertices, normals, uvs, indices);
+    if is_plain(stand, inset) {
+        let q = column::wall::part_at(w, p);
+        let f = buffers::plain::shift_quad(stand, q);
+        buffers::laying::lay_plain_quad(f, at, vertices, normals, uvs, indices);
+    } else {
+        let q = column::wall::part_at(w, p);
+        buffers::laying::lay_wall(stand, inset, q, at, vertices, normals, uvs, indices);
+    }
 }
 
 // One face, laid at a place.
@@ -67,7 +87,10 @@ pub(crate) fn put_named(
     match piece {
         Piece::Part(d, p) => {
             let w = column::wall::wall_of(job, d, pairs, numbers, marks);
-            put_part(w, p, at, vertices, normals, uvs, indices);
+            let stand = w.stand;
+            let inset = w.inset;
+            let q = column::wall::part_at(w, p);
+            buffers::laying::lay_wall(stand, inset, q, at, vertices, normals, uvs, indices);
         }
         Piece::Cap(t, c) => {
             let o = placement::options::option_for(c, numbers, marks);

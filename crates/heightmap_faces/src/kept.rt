@@ -1,5 +1,7 @@
 // What was last made of an option, beside the option's number: it is made anew only where another number comes.
 ghost use mathlib.Core.Path.{_≡_};
+ghost use mathlib.Core.Bool.{cond};
+ghost use lib.Dec.{eqb};
 ghost use Rattle.heightmap_faces.specs.Kept.{numberIn, levelBy, topBy};
 use heightmap::Span;
 use placement::options::Choice;
@@ -46,4 +48,30 @@ pub fn top_by(number: u8, corners: &[f32], numbers: &[f32], marks: &[u8]) -> Kep
         number: number,
         top: top,
     }
+}
+
+// What is kept, or what its number asks for in its place.
+pub fn keep_top(
+    kept: KeptTop,
+    number: u8,
+    corners: &[f32],
+    numbers: &[f32],
+    marks: &[u8],
+) -> KeptTop
+    ensures { λ r. ⌜ r ≡ cond (eqb number (kept .number)) kept (topBy (now (corners .entry)) (now (numbers .entry)) (now (marks .entry)) number) ⌝ }
+{
+    if number == kept.number {
+        return kept;
+    }
+    top_by(number, corners, numbers, marks)
+}
+
+// Of two that are kept, the one of the number if the first is, and else the other.
+pub fn top_among(first: KeptTop, other: KeptTop, number: u8) -> crate::Top
+    ensures { λ r. ⌜ r ≡ cond (eqb number (first .number)) (first .top) (other .top) ⌝ }
+{
+    if number == first.number {
+        return first.top;
+    }
+    other.top
 }

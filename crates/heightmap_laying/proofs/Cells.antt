@@ -2,14 +2,17 @@
 use mathlib.Core.Path.{_≡_, refl, sym, ap, ap₂, _∙_}
 use mathlib.Core.Bool.{Bool, true, false, cond}
 use mathlib.Core.List.{List, [], _∷_, _++_, map, map-append}
+use mathlib.Core.Logic.{_⊎_, inl, inr}
 use Prim.Native.Nat.{ℕ, zero, suc}
+use borrow.Author.Tests.{eq-eqb, ne-eqb, eqb-true}
+use lib.Dec.{eqb}
 use lib.Ieee.{Float}
 use Rattle.face.specs.declared.triangle.Counts.{Counts}
 use Rattle.face.specs.Lists.{chain}
 use Rattle.answer.specs.Checks.{cellCount}
 use Rattle.placement.specs.declared.options.Choice.{Choice}
 use Rattle.placement.specs.declared.options.Choice.the-variants as option
-use Rattle.placement.specs.declared.options.FaceOptions.{FaceOptions}
+use Rattle.placement.specs.Options.{optionAt}
 use Rattle.buffers.specs.Mesh.{Mesh, none, also, measure}
 use Rattle.buffers.specs.Laying.{Buffers, layEach}
 use Rattle.buffers.proofs.Each.{SoFar, so-far-more, each-none}
@@ -21,12 +24,11 @@ use Rattle.heightmap.specs.HeightMap.{Lists, lists, capNames, sideNames, cellNa
 use Rattle.heightmap_faces.specs.declared.Top.{Top}
 use Rattle.heightmap_faces.specs.declared.kept.KeptTop.{KeptTop}
 use Rattle.heightmap_faces.specs.Speed.{topOf}
-use Rattle.heightmap_faces.specs.Kept.{numberIn, topBy}
+use Rattle.heightmap_faces.specs.Kept.{topBy}
 use Rattle.heightmap_faces.specs.Named.{sideOf}
 use Rattle.heightmap_faces.proofs.Plain.{cap-is, side-is}
 use Rattle.heightmap_laying.specs.declared.Shared.{Shared}
 use Rattle.heightmap_laying.specs.Shared.{sharedOf, topFaces, levelMesh, sidesFaces, cellFaces, allLaid}
-use Rattle.heightmap_laying.proofs.Walls.{chosenFor, option-chosen}
 
 -- what is shared hangs on the cells and the table alone
 pub shared-for : (job : HeightMap) (cs : List Float) (ns : List ℕ) (fs : List Float) (us : List ℕ) (xs : List Float) (ms : List ℕ) (s : Shared)
@@ -34,16 +36,27 @@ pub shared-for : (job : HeightMap) (cs : List Float) (ns : List ℕ) (fs : List 
 unfolding spanOf
 shared-for job cs ns fs us xs ms s e = e ∙ ap (λ (j : HeightMap). sharedOf j (lists (grid cs ns fs) us [] xs ms)) (sym (ap (λ (x : Shared). x .job) e))
 
--- what is made of the number is of the name's option
-pub top-chosen : (job : HeightMap) (ls : Lists) (name : Name) (next : KeptTop) (number : ℕ) (choice : Choice)
-    → choice ≡ chosenFor job ls name
-    → number ≡ numberIn choice
-    → next ≡ topBy (ls .corners) (ls .numbers) (ls .marks) number
-    → (next ≡ topBy (ls .corners) (ls .numbers) (ls .marks) (next .number)) × (next .top ≡ topOf (ls .corners) (optionOf job ls name))
-top-chosen job ls name next number choice c n e = (
-  e ∙ ap (topBy (ls .corners) (ls .numbers) (ls .marks)) (sym (ap (λ (y : KeptTop). y .number) e)),
-  ap (λ (y : KeptTop). y .top) e ∙ ap (topOf (ls .corners)) (option-chosen job ls name number choice c n),
-)
+-- of the caps that are kept, the one of a number: the first where it is that number's, else the other, made anew if need be
+module _ (cs ns : List Float) (ms : List ℕ) where
+  kept-or : (kept : KeptTop) (n : ℕ) (b : Bool) → kept ≡ topBy cs ns ms (kept .number) → eqb n (kept .number) ≡ b → cond b kept (topBy cs ns ms n) ≡ topBy cs ns ms n
+  kept-or kept n true k e = k ∙ ap (topBy cs ns ms) (sym (eqb-true n (kept .number) e))
+  kept-or kept n false k e = refl
+
+  of-its-own : (next : KeptTop) (n : ℕ) → next ≡ topBy cs ns ms n → next ≡ topBy cs ns ms (next .number)
+  of-its-own next n e = e ∙ ap (topBy cs ns ms) (sym (ap (λ (y : KeptTop). y .number) e))
+
+  pub tops-kept : (own kept next : KeptTop) (o n : ℕ) (top : Top)
+      → own ≡ topBy cs ns ms o
+      → kept ≡ topBy cs ns ms (kept .number)
+      → top ≡ cond (eqb n (own .number)) (own .top) (next .top)
+      → ((n ≡ own .number → ⊥) × (next ≡ cond (eqb n (kept .number)) kept (topBy cs ns ms n))) ⊎ ((n ≡ own .number) × (next ≡ kept))
+      → (next ≡ topBy cs ns ms (next .number)) × (top ≡ topOf cs (optionAt ns ms n))
+  tops-kept own kept next o n top w k t (inl (d, e)) =
+      let m = e ∙ kept-or kept n (eqb n (kept .number)) k refl in
+      (of-its-own next n m, t ∙ ap (λ (b : Bool). cond b (own .top) (next .top)) (ne-eqb n (own .number) d) ∙ ap (λ (y : KeptTop). y .top) m)
+  tops-kept own kept next o n top w k t (inr (d, e)) =
+      let m = w ∙ ap (topBy cs ns ms) (sym (d ∙ ap (λ (y : KeptTop). y .number) w)) in
+      (rw e k, t ∙ ap (λ (b : Bool). cond b (own .top) (next .top)) (eq-eqb n (own .number) d) ∙ ap (λ (y : KeptTop). y .top) m)
 
 module _ (job : HeightMap) (g : Grid) (us : List ℕ) (ps xs : List Float) (ms : List ℕ) (k : ℕ) where
   -- a wall has no use for the cap corners

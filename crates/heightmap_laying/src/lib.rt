@@ -7,7 +7,7 @@ ghost use Prim.Native.Nat.{_+_, _≤_, _<_, _^_};
 ghost use Rattle.buffers.specs.Mesh.{also, measure};
 ghost use Rattle.buffers.specs.Laying.{laidIfFits, layEach};
 ghost use Rattle.buffers.specs.Lent.{become};
-ghost use Rattle.heightmap.specs.Grid.{grid};
+ghost use Rattle.heightmap.specs.Grid.{grid, leftAt, rightAt};
 ghost use Rattle.heightmap.specs.HeightMap.{lists, lent, lentForCounts};
 ghost use Rattle.heightmap_laying.specs.Shared.{sharedOf, lendingForSides, topMesh, topFaces, levelMesh, levelFaces, sidesFaces, cellFaces};
 ghost use Rattle.heightmap_laying.specs.Shared.{sidesLaid, cellLaid, nameLaid, allLaid};
@@ -75,6 +75,7 @@ fn up_to(n: usize) -> usize
     0
 }
 
+// A cap of a whole build. It and `put_side` have one call each, so that the compiler makes and lays a face at one go.
 fn put_cap(
     top: Top,
     t: Stand,
@@ -88,7 +89,12 @@ fn put_cap(
 {
     let inset = top.inset;
     let whole = top.whole;
-    buffers::laying::lay_hexagon(t, inset, whole, at, vertices, normals, uvs, indices);
+    if face::inset::is_none(inset) {
+        let f = buffers::plain::stand_hexagon(t, whole);
+        buffers::laying::lay_plain_hexagon(f, at, vertices, normals, uvs, indices);
+    } else {
+        buffers::laying::lay_hexagon(t, inset, whole, at, vertices, normals, uvs, indices);
+    }
 }
 
 fn put_side(
@@ -107,8 +113,14 @@ fn put_side(
 {
     let skin = v.skin;
     let inset = skin.inset;
-    let q = heightmap_faces::wall_quad(v, left, right, foot);
-    buffers::laying::lay_wall(t, inset, q, at, vertices, normals, uvs, indices);
+    if face::inset::is_none(inset) {
+        let q = heightmap_faces::wall_quad(v, left, right, foot);
+        let f = buffers::plain::stand_quad(t, q);
+        buffers::laying::lay_plain_quad(f, at, vertices, normals, uvs, indices);
+    } else {
+        let q = heightmap_faces::wall_quad(v, left, right, foot);
+        buffers::laying::lay_wall(t, inset, q, at, vertices, normals, uvs, indices);
+    }
 }
 
 // A cap where caps are on, and the place past it.
@@ -142,22 +154,25 @@ fn put_wall(
     w: Wall,
     v: Level,
     t: Stand,
-    left: Vec2,
-    right: Vec2,
+    k: usize,
+    d: u8,
     at: Counts,
+    cells: &[f32],
     vertices: &mut [f32],
     normals: &mut [f32],
     uvs: &mut [f32],
     indices: &mut [u16],
 ) -> Counts
     requires { ⌜ (at .vertices .0 ≤ 2 ^ 33) × (at .indices .0 ≤ 2 ^ 33) ⌝ }
-    ensures place { λ r. ⌜ r ≡ also at (measure (levelFaces w t v left right)) ⌝ }
+    ensures place { λ r. ⌜ r ≡ also at (measure (levelFaces w t v (leftAt (now (cells .entry)) k d) (rightAt (now (cells .entry)) k d))) ⌝ }
     ensures small { λ r. ⌜ (r .vertices .0 ≤ at .vertices .0 + 8) × (r .indices .0 ≤ at .indices .0 + 32) ⌝ }
-    ensures buffers { λ _. ⌜ become (layEach (levelFaces w t v left right) at) vertices normals uvs indices ⌝ }
+    ensures buffers { λ _. ⌜ become (layEach (levelFaces w t v (leftAt (now (cells .entry)) k d) (rightAt (now (cells .entry)) k d)) at) vertices normals uvs indices ⌝ }
 {
     let skin = v.skin;
     let inset = skin.inset;
     if heightmap::grid::is_present(w) {
+        let left = heightmap::grid::left_at(cells, k, d);
+        let right = heightmap::grid::right_at(cells, k, d);
         let foot = heightmap::grid::foot_of(w);
         put_side(v, t, left, right, foot, at, vertices, normals, uvs, indices);
         return add(at, face::triangle::quad_counts(inset));
@@ -208,9 +223,7 @@ fn put_sides(
         }
         let v = kept.level;
         let w = heightmap::grid::wall_at(sides, how, cells, neighbours, fringe, k, d);
-        let left = heightmap::grid::left_at(cells, k, d);
-        let right = heightmap::grid::right_at(cells, k, d);
-        place = put_wall(w, v, t, left, right, place, vertices, normals, uvs, indices);
+        place = put_wall(w, v, t, k, d, place, cells, vertices, normals, uvs, indices);
     }
     place
 }
@@ -281,8 +294,9 @@ pub fn put_all(
 {
     let caps = job.caps;
     let s = shared_of(job, cells, numbers, marks);
-    let own = heightmap_faces::kept::number_of(caps);
-    let mut kept = heightmap_faces::kept::top_by(own, corners, numbers, marks);
+    let o = heightmap_faces::kept::number_of(caps);
+    let own = heightmap_faces::kept::top_by(o, corners, numbers, marks);
+    let mut kept = own;
     let mut place = Counts {
         vertices: VertexNumber(0),
         indices: IndexPlace(0),
@@ -291,10 +305,10 @@ pub fn put_all(
     for k in 0usize..n {
         let choice = heightmap::options::choice_of(job, Name::Cap(k), customs);
         let number = heightmap_faces::kept::number_of(choice);
-        if number != kept.number {
-            kept = heightmap_faces::kept::top_by(number, corners, numbers, marks);
+        if number != own.number {
+            kept = heightmap_faces::kept::keep_top(kept, number, corners, numbers, marks);
         }
-        let top = kept.top;
+        let top = heightmap_faces::kept::top_among(own, kept, number);
         place = put_cell(
             s,
             top,
@@ -338,10 +352,12 @@ pub fn put_named(
             let c = heightmap_faces::named::cap_of(job, k, cells, customs, corners, numbers, marks);
             let top = c.top;
             let stand = c.stand;
-            put_cap(top, stand, at, vertices, normals, uvs, indices);
+            let inset = top.inset;
+            let whole = top.whole;
+            buffers::laying::lay_hexagon(stand, inset, whole, at, vertices, normals, uvs, indices);
         }
         Name::Side(k, d) => {
-            let q = heightmap_faces::named::side_of(
+            let f = heightmap_faces::named::side_of(
                 job,
                 k,
                 d,
@@ -352,22 +368,14 @@ pub fn put_named(
                 numbers,
                 marks,
             );
-            let v = q.level;
-            let stand = q.stand;
-            let left = q.left;
-            let right = q.right;
-            put_side(
-                v,
-                stand,
-                left,
-                right,
-                q.foot,
-                at,
-                vertices,
-                normals,
-                uvs,
-                indices,
-            );
+            let v = f.level;
+            let skin = v.skin;
+            let inset = skin.inset;
+            let stand = f.stand;
+            let left = f.left;
+            let right = f.right;
+            let q = heightmap_faces::wall_quad(v, left, right, f.foot);
+            buffers::laying::lay_wall(stand, inset, q, at, vertices, normals, uvs, indices);
         }
     }
 }

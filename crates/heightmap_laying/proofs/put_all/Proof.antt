@@ -8,7 +8,7 @@ use Rattle.heightmap.specs.Grid.{grid}
 use Rattle.heightmap.specs.HeightMap.{lists}
 use Prim.Native.Nat.{ℕ, _+_, _*_, _-_, _≤_}
 use mathlib.Core.List.{map}
-use mathlib.Core.Logic.{⊎-elim}
+use mathlib.Core.Logic.{inl, inr, ⊎-elim}
 use native.Mathlib.Numerals.{add-one}
 use lib.ListN.{length}
 use Rattle.face.specs.Lists.{chain}
@@ -19,21 +19,23 @@ use mathlib.Core.Bool.{cond}
 use Rattle.answer.specs.Checks.{cellCount}
 use Rattle.heightmap.specs.HeightMap.{cellNames, meshOf}
 use Rattle.heightmap_faces.specs.declared.kept.KeptTop.{KeptTop}
+use Rattle.heightmap_faces.specs.Speed.{topOf}
 use Rattle.heightmap_faces.specs.Kept.{topBy}
 use Rattle.heightmap_laying.specs.declared.Shared.{Shared}
-use Rattle.heightmap_laying.proofs.Cells.{shared-for, top-chosen, cell-more, all-laid}
+use Rattle.heightmap_laying.proofs.Cells.{shared-for, tops-kept, cell-more, all-laid}
+use Rattle.heightmap_laying.proofs.Walls.{option-chosen}
 use Rattle.heightmap_laying.proofs.put_all.Statement.{statement}
 use Rattle.heightmap_laying.proofs.put_all.Tie as tie
 
 abbrev Inv : tie.InvT-loop
-Inv job cells neighbours fringe customs corners numbers marks vertices₀ normals₀ uvs₀ indices₀ s own kept₀ place₀ n k₀ vertices normals uvs indices kept place k =
+Inv job cells neighbours fringe customs corners numbers marks vertices₀ normals₀ uvs₀ indices₀ s o own kept₀ place₀ n k₀ vertices normals uvs indices kept place k =
     (k ≤ n)
     × (SoFar (map (meshOf job (lists (grid cells neighbours fringe) customs corners numbers marks)) (chain (cellNames job (grid cells neighbours fringe)) k)) none (four vertices₀ normals₀ uvs₀ indices₀) place (four vertices normals uvs indices)
     × (((place .vertices .0 ≤ 250 * k) × (place .indices .0 ≤ 250 * k))
     × (kept ≡ topBy corners numbers marks (kept .number))))
 
 abbrev μ : tie.MeasureT-loop
-μ job cells neighbours fringe customs corners numbers marks vertices₀ normals₀ uvs₀ indices₀ s own kept₀ place₀ n k₀ vertices normals uvs indices kept place k = n - k
+μ job cells neighbours fringe customs corners numbers marks vertices₀ normals₀ uvs₀ indices₀ s o own kept₀ place₀ n k₀ vertices normals uvs indices kept place k = n - k
 
 pub put-all-spec : {M : Type 1} → statement M
 put-all-spec =
@@ -53,6 +55,7 @@ put-all-spec =
     (λ c κs. search needs)
     (λ c κs. search needs)
     (λ c κs. search needs)
+    (λ c κs. search needs)
     (λ c κs.
     let a = c .before .before .before .before .before .before .before .before .before .before .before .before .before .before .before .before .before .before .before .before .before .before .before .before .before .before .before .args in
     let i = c .before .before .before .before .before .before .before .before .before .before .loop .inv in
@@ -64,11 +67,12 @@ put-all-spec =
     let L = c .before .before .before .before .before .before .before .before .before .before .before .before .before .before .before .before .before .before .before .loop in
     let ls = lists (grid (now (a .cells)) (now (a .neighbours)) (now (a .fringe))) (now (a .customs)) (now (a .corners)) (now (a .numbers)) (now (a .marks)) in
     let e = c .before .before .before .before .before .before .before .before .put-cell .ensures in
-    let made = ⊎-elim (λ w. w .2 ∙ w .1 .ensures) (λ w. w .1 ∙ L .inv .1 .1 .1 ∙ ap (topBy (now (a .corners)) (now (a .numbers)) (now (a .marks))) (sym (w .0 .left))) (c .before .before .before .before .before .before .before .before .before .before .before .before .before .before .if1 .came) in
-    let g = top-chosen (a .job) ls (Cap (L .k)) (c .before .before .before .before .before .before .before .before .before .before .before .before .before .before .if1 .kept) _ _ (c .before .before .before .before .before .before .before .before .before .before .before .before .before .before .before .before .before .choice-of .ensures) (c .before .before .before .before .before .before .before .before .before .before .before .before .before .before .before .before .number-of2 .ensures) made in (
+    let came = ⊎-elim (λ w. inl (w .0 .taken, w .2 ∙ w .1 .ensures)) (λ w. inr (w .0 .left, w .1)) (c .before .before .before .before .before .before .before .before .before .before .before .before .before .before .if1 .came) in
+    let g = tops-kept (now (a .corners)) (now (a .numbers)) (now (a .marks)) _ (L .kept) (c .before .before .before .before .before .before .before .before .before .before .before .before .before .before .if1 .kept) _ _ _ (c .before .before .before .before .before .before .before .before .before .before .before .before .before .before .before .before .before .before .before .before .before .before .top-by .ensures) (L .inv .1 .1 .1) (c .before .before .before .before .before .before .before .before .before .before .before .before .before .top-among .ensures) came in
+    let t = g .1 ∙ ap (topOf (now (a .corners))) (option-chosen (a .job) ls (Cap (L .k)) _ _ (c .before .before .before .before .before .before .before .before .before .before .before .before .before .before .before .before .before .choice-of .ensures) (c .before .before .before .before .before .before .before .before .before .before .before .before .before .before .before .before .number-of2 .ensures)) in (
       omega (arith, c .before .before .before .before .before .before .before .before .before .before .before .before .before .before .before .before .before .before .loop-test .taken),
       (
-        rw (add-one (L .k)) (cell-more (a .job) (grid (now (a .cells)) (now (a .neighbours)) (now (a .fringe))) (now (a .customs)) (now (a .corners)) (now (a .numbers)) (now (a .marks)) (L .k) none (L .place) _ (four (now (a .vertices)) (now (a .normals)) (now (a .uvs)) (now (a .indices))) (four (L .vertices) (L .normals) (L .uvs) (L .indices)) _ _ _ (L .inv .1 .0) (ap (λ (x : Shared). x .job) (c .before .before .before .before .before .before .before .before .before .before .before .before .before .before .before .before .before .before .before .before .before .before .before .before .shared-of .ensures)) (g .1) (e .0) (e .1 .1)),
+        rw (add-one (L .k)) (cell-more (a .job) (grid (now (a .cells)) (now (a .neighbours)) (now (a .fringe))) (now (a .customs)) (now (a .corners)) (now (a .numbers)) (now (a .marks)) (L .k) none (L .place) _ (four (now (a .vertices)) (now (a .normals)) (now (a .uvs)) (now (a .indices))) (four (L .vertices) (L .normals) (L .uvs) (L .indices)) _ _ _ (L .inv .1 .0) (ap (λ (x : Shared). x .job) (c .before .before .before .before .before .before .before .before .before .before .before .before .before .before .before .before .before .before .before .before .before .before .before .before .shared-of .ensures)) t (e .0) (e .1 .1)),
         ((omega (arith, e .1 .0 .0, L .inv .1 .1 .0 .0), omega (arith, e .1 .0 .1, L .inv .1 .1 .0 .1)), g .0),
       ),
     ))

@@ -1,7 +1,7 @@
 -- `put_sides`: after d turns the first d walls are laid, the place is past them, and what is kept is made of its number. Assumes nothing.
 use borrow.Author.Needs.{needs}
 use Prim.Native.Nat.{ℕ, _+_, _*_, _-_, _≤_}
-use mathlib.Core.Path.{_≡_, sym, ap, _∙_}
+use mathlib.Core.Path.{_≡_, refl, sym, ap, _∙_}
 use mathlib.Core.List.{[]}
 use native.Mathlib.Numerals.{add-one}
 use native.Mathlib.Omega.{arith}
@@ -47,24 +47,22 @@ put-sides-spec =
     (λ c κs. search needs)
     (λ c κs. search needs)
     (λ c κs. search needs)
-    (λ c κs. search needs)
-    (λ c κs. search needs)
     (λ c κs.
-    let i = c .before .before .before .before .before .before .before .before .before .before .before .before .before .loop .inv in
-    (omega (arith, i .0, i .1 .1 .0 .0, c .before .before .before .before .before .before .before .before .before .before .before .before .before .before .before .before .before .before .before .before .before .before .before .before .before .before .before .before .before .before .pre .1 .0), omega (arith, i .0, i .1 .1 .0 .1, c .before .before .before .before .before .before .before .before .before .before .before .before .before .before .before .before .before .before .before .before .before .before .before .before .before .before .before .before .before .before .pre .1 .1)))
-    (λ c. omega (arith, c .before .before .before .before .before .before .before .before .before .before .before .before .before .before .before .before .before .before .before .before .before .loop-test .taken))
-    (λ c. omega (arith, c .before .before .before .before .before .before .before .before .before .before .before .before .before .before .before .before .before .before .before .before .before .loop-test .taken))
+    let i = c .before .before .before .before .before .before .before .before .before .before .before .loop .inv in
+    (omega (arith, i .0, i .1 .1 .0 .0, c .before .before .before .before .before .before .before .before .before .before .before .before .before .before .before .before .before .before .before .before .before .before .before .before .before .before .before .before .pre .1 .0), omega (arith, i .0, i .1 .1 .0 .1, c .before .before .before .before .before .before .before .before .before .before .before .before .before .before .before .before .before .before .before .before .before .before .before .before .before .before .before .before .pre .1 .1)))
+    (λ c. omega (arith, c .before .before .before .before .before .before .before .before .before .before .before .before .before .before .before .before .before .before .before .loop-test .taken))
+    (λ c. omega (arith, c .before .before .before .before .before .before .before .before .before .before .before .before .before .before .before .before .before .before .before .loop-test .taken))
     (λ c.
-    let a = c .before .before .before .before .before .before .before .before .before .before .before .before .before .before .before .before .before .before .before .before .before .before .before .before .before .before .before .before .before .before .before .before .before .before .before .before .before .before .before .args in
-    let L = c .before .before .before .before .before .before .before .before .before .before .before .before .before .before .before .before .before .before .before .before .before .before .loop in
+    let a = c .before .before .before .before .before .before .before .before .before .before .before .before .before .before .before .before .before .before .before .before .before .before .before .before .before .before .before .before .before .before .before .before .before .before .before .before .before .args in
+    let L = c .before .before .before .before .before .before .before .before .before .before .before .before .before .before .before .before .before .before .before .before .loop in
     let ls = lists (grid (now (a .cells)) (now (a .neighbours)) (now (a .fringe))) (now (a .customs)) [] (now (a .numbers)) (now (a .marks)) in
-    let p = c .before .before .before .before .before .before .before .before .before .before .before .before .before .before .before .before .before .before .before .before .before .before .before .before .before .before .before .before .before .before .before .before .before .before .before .before .before .before .before .pre .0 in
-    let made = ⊎-elim (λ w. w .2 ∙ w .1 .ensures) (λ w. w .1 ∙ L .inv .1 .1 .1 ∙ ap (levelBy (a .s .span) (c .before .before .before .before .before .before .before .before .before .before .before .before .before .before .before .before .before .before .before .before .before .before .before .before .height-at .result) (now (a .numbers)) (now (a .marks))) (sym (w .0 .left))) (c .before .before .before .before .before .before .before .before .before .before .before .before .before .before .before .before .before .if1 .came) in
-    let g = level-chosen (a .s .job) ls (Side (a .k) (L .d)) (a .k) (c .before .before .before .before .before .before .before .before .before .before .before .before .before .before .before .before .before .if1 .kept) (a .s .span) _ _ _ (ap (λ (x : Shared). x .span) p) (c .before .before .before .before .before .before .before .before .before .before .before .before .before .before .before .before .before .before .before .before .before .before .before .before .height-at .ensures) (c .before .before .before .before .before .before .before .before .before .before .before .before .before .before .before .before .before .before .before .before .choice-of .ensures) (c .before .before .before .before .before .before .before .before .before .before .before .before .before .before .before .before .before .before .before .number-of .ensures) made in
+    let p = c .before .before .before .before .before .before .before .before .before .before .before .before .before .before .before .before .before .before .before .before .before .before .before .before .before .before .before .before .before .before .before .before .before .before .before .before .before .pre .0 in
+    let made = ⊎-elim (λ w. w .2 ∙ w .1 .ensures) (λ w. w .1 ∙ L .inv .1 .1 .1 ∙ ap (levelBy (a .s .span) (c .before .before .before .before .before .before .before .before .before .before .before .before .before .before .before .before .before .before .before .before .before .before .height-at .result) (now (a .numbers)) (now (a .marks))) (sym (w .0 .left))) (c .before .before .before .before .before .before .before .before .before .before .before .before .before .before .before .if1 .came) in
+    let g = level-chosen (a .s .job) ls (Side (a .k) (L .d)) (a .k) (c .before .before .before .before .before .before .before .before .before .before .before .before .before .before .before .if1 .kept) (a .s .span) _ _ _ (ap (λ (x : Shared). x .span) p) (c .before .before .before .before .before .before .before .before .before .before .before .before .before .before .before .before .before .before .before .before .before .before .height-at .ensures) (c .before .before .before .before .before .before .before .before .before .before .before .before .before .before .before .before .before .before .choice-of .ensures) (c .before .before .before .before .before .before .before .before .before .before .before .before .before .before .before .before .before .number-of .ensures) made in
     let m = c .before .before .before .before .before .before .before .before .put-wall .ensures .1 .0 in (
-      omega (arith, c .before .before .before .before .before .before .before .before .before .before .before .before .before .before .before .before .before .before .before .before .before .loop-test .taken),
+      omega (arith, c .before .before .before .before .before .before .before .before .before .before .before .before .before .before .before .before .before .before .before .loop-test .taken),
       (
-        rw (add-one (L .d)) (side-more (a .s .job) ls (a .k) (L .d) (a .at) (L .place) _ (four (now (a .vertices)) (now (a .normals)) (now (a .uvs)) (now (a .indices))) (four (L .vertices) (L .normals) (L .uvs) (L .indices)) _ _ _ _ _ _ (L .inv .1 .0) (c .before .before .before .before .before .before .before .before .before .before .before .before .before .before .before .wall-at .ensures) (ap (λ (x : Shared). x .stand) p) (g .1) (c .before .before .before .before .before .before .before .before .before .before .before .before .before .before .left-at .ensures) (c .before .before .before .before .before .before .before .before .before .before .before .before .before .right-at .ensures) (c .before .before .before .before .before .before .before .before .put-wall .ensures .0) (c .before .before .before .before .before .before .before .before .put-wall .ensures .1 .1)),
+        rw (add-one (L .d)) (side-more (a .s .job) ls (a .k) (L .d) (a .at) (L .place) _ (four (now (a .vertices)) (now (a .normals)) (now (a .uvs)) (now (a .indices))) (four (L .vertices) (L .normals) (L .uvs) (L .indices)) _ _ _ _ _ _ (L .inv .1 .0) (c .before .before .before .before .before .before .before .before .before .before .before .before .before .wall-at .ensures) (ap (λ (x : Shared). x .stand) p) (g .1) refl refl (c .before .before .before .before .before .before .before .before .put-wall .ensures .0) (c .before .before .before .before .before .before .before .before .put-wall .ensures .1 .1)),
         ((omega (arith, m .0, L .inv .1 .1 .0 .0), omega (arith, m .1, L .inv .1 .1 .0 .1)), g .0),
       ),
     ))

@@ -22,6 +22,7 @@ put-named-spec =
     (λ c. search needs)
     (λ c κs. search needs)
     (λ c κs. search needs)
+    (λ c κs. search needs)
     (λ c. search needs)
     (λ c κs. search needs)
     (λ c κs. search needs)
@@ -30,13 +31,13 @@ put-named-spec =
     (λ c. search needs)
     (λ c. search needs)
     (λ c.
-    let a = c .before .before .before .before .before .before .before .before .before .before .before .before .before .before .before .before .before .before .before .before .before .before .before .before .before .before .args in
+    let a = c .before .before .before .before .before .before .before .before .before .before .before .before .before .before .before .before .before .before .before .before .before .before .before .before .before .before .before .before .args in
     let ls = lists (now (a .pairs)) (now (a .corners)) (now (a .numbers)) (now (a .marks)) in
     let B = four (now (a .vertices)) (now (a .normals)) (now (a .uvs)) (now (a .indices)) in
-    let p = c .before .before .before .before .before .before .before .before .before .before .before .before .before .before .before .piece .given .0 .1 .0 in
-    c .before .before .before .before .before .before .before .before .put-part .ensures
-    ∙ ap (λ (w : Wall). laidIfFits (partMesh w p) (a .at) B) (c .before .before .before .before .before .before .before .before .before .before .before .before .before .wall-of .ensures)
-    ∙ ap (λ (x : Piece). laidIfFits (pieceMesh (a .job) ls x) (a .at) B) (sym (c .before .before .before .before .before .before .before .before .before .before .before .before .before .before .before .piece .given .1) ∙ c .before .before .before .before .before .before .before .before .before .before .before .before .before .before .before .before .before .piece-of .ensures)
+    let p = c .before .before .before .before .before .before .before .before .before .before .before .before .before .before .before .before .before .piece .given .0 .1 .0 in
+    rw (c .before .before .before .before .before .before .before .before .before .before .before .before .before .part-at .ensures) at (c .before .before .before .before .before .before .before .before .lay-wall .ensures)
+    ∙ ap (λ (w : Wall). laidIfFits (partMesh w p) (a .at) B) (c .before .before .before .before .before .before .before .before .before .before .before .before .before .before .before .wall-of .ensures)
+    ∙ ap (λ (x : Piece). laidIfFits (pieceMesh (a .job) ls x) (a .at) B) (sym (c .before .before .before .before .before .before .before .before .before .before .before .before .before .before .before .before .before .piece .given .1) ∙ c .before .before .before .before .before .before .before .before .before .before .before .before .before .before .before .before .before .before .before .piece-of .ensures)
     ∙ ap (λ (m : Mesh). laidIfFits m (a .at) B) (piece-is (a .job) ls (a .name)))
     (λ c. search needs)
     (λ c. search needs)
