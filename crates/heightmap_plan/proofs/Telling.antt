@@ -1,6 +1,6 @@
 -- What is told of a map's faces is what they are. A plan that is done has not too many cells, so the walk over untested
 -- lists has counted all of them. Assumes nothing.
-use mathlib.Core.Path.{_≡_, refl, sym, ap, ap₂, _∙_}
+use mathlib.Core.Path.{_≡_, refl, sym, ap, _∙_}
 use mathlib.Core.Bool.{Bool, true, cond}
 use mathlib.Core.List.{List, []}
 use Prim.Native.Nat.{ℕ, _<_}
@@ -31,9 +31,8 @@ use Rattle.heightmap.proofs.Counts.{size-of}
 use Rattle.heightmap.proofs.Numbering.{start-alike}
 use Rattle.heightmap_plan.specs.declared.names.Found.{Found}
 use Rattle.heightmap_plan.specs.declared.names.Survey.{Survey}
-use Rattle.heightmap_plan.specs.declared.tally.Tally.{Tally}
 use Rattle.heightmap_plan.specs.Walking.{tallyOf}
-use Rattle.heightmap_plan.specs.Finding.{foundBy, foundAt, surveyOf, faceCount}
+use Rattle.heightmap_plan.specs.Finding.{foundBy, surveyOf, faceCount}
 use Rattle.heightmap_plan.proofs.Deciding.{few-cells}
 
 module _ (job : HeightMap) (g : Grid) (us : List ℕ) (ps xs : List Float) (ms : List ℕ) where

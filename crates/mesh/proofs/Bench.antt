@@ -11,7 +11,7 @@ use Rattle.face.specs.Triangles.{counts, noTriangle}
 use Rattle.answer.specs.declared.answer.Refusal.the-variants.{Shape, Range, Limit, NoFace, Empty}
 use Rattle.answer.specs.declared.answer.Answer.the-variants.{Done, Refused}
 use Rattle.answer.specs.Answers.{limited, named}
-use Rattle.buffers.specs.Mesh.{Vertex, Mesh, none}
+use Rattle.buffers.specs.Mesh.{Mesh, none}
 use Rattle.buffers.specs.Laying.{four}
 use Rattle.mesh.specs.Jobs.{facesOf, windowBy, windowOf}
 use Rattle.mesh.specs.Stored.{storedAnswer, centroidOf}

@@ -1,6 +1,6 @@
 -- `window`: the plan, then the number, then the face that the survey finds. Assumes nothing.
 use borrow.Author.Needs.{needs}
-use mathlib.Core.Path.{ap, _∙_}
+use mathlib.Core.Path.{_∙_}
 use denote.Ref.{now}
 use Rattle.heightmap.specs.Grid.{grid}
 use Rattle.heightmap_plan.proofs.Telling.{window-found}
