@@ -4,11 +4,16 @@ use Prim.Native.Nat.{ℕ}
 use mathlib.Core.Bool.{cond}
 use Rattle.answer.specs.declared.answer.Refusal.the-variants.{Shape}
 use Rattle.answer.specs.declared.answer.Answer.{Answer}
+use Rattle.answer.specs.declared.answer.Answer.the-variants.{Refused}
 use Rattle.answer.specs.Answers.{given}
+use Rattle.buffers.specs.Mesh.{none}
 use Rattle.buffers.specs.Laying.{Buffers}
+use Rattle.mesh.specs.declared.windows.Faces.{Faces}
+use Rattle.mesh.specs.declared.windows.Window.{Window}
+use Rattle.mesh.specs.Jobs.{facesBy, windowBy}
 use Rattle.heightmap.specs.HeightMap.{Lists}
 use Rattle.heightmap.specs.Tests.{planned}
-use Rattle.heightmap.specs.Calls.{wholeAnswer, faceAnswer, built, faced}
+use Rattle.heightmap.specs.Calls.{wholeAnswer, faceAnswer, built, faced, facesTold, windowTold}
 use Rattle.boundary.specs.declared.jobs.CHeightMap.{CHeightMap}
 use Rattle.boundary.specs.FromC.{isFringe, heightMapOf}
 
@@ -31,3 +36,9 @@ mapBuilt job ls B = cond (isFringe (job .fringe)) (built (heightMapOf job) ls B)
 
 abbrev pub mapFaced : CHeightMap → Lists → ℕ → Buffers → Buffers
 mapFaced job ls k B = cond (isFringe (job .fringe)) (faced (heightMapOf job) ls k B) B
+
+abbrev pub mapFacesTold : CHeightMap → Lists → Faces
+mapFacesTold job ls = cond (isFringe (job .fringe)) (facesTold (heightMapOf job) ls) (facesBy (Refused Shape) 0)
+
+abbrev pub mapWindowTold : CHeightMap → Lists → ℕ → Window
+mapWindowTold job ls k = cond (isFringe (job .fringe)) (windowTold (heightMapOf job) ls k) (windowBy (Refused Shape) none none)

@@ -5,11 +5,15 @@ use Rattle.answer.specs.declared.answer.Answer.{Answer}
 use Rattle.answer.specs.Answers.{numberOf, countsOf}
 use Rattle.mesh.specs.declared.stored.CentroidAnswer.{CentroidAnswer}
 use Rattle.mesh.specs.declared.stored.UvCentroidAnswer.{UvCentroidAnswer}
+use Rattle.mesh.specs.declared.windows.Faces.{Faces}
+use Rattle.mesh.specs.declared.windows.Window.{Window}
 use Rattle.boundary.specs.declared.from_c.CVec2.{CVec2}
 use Rattle.boundary.specs.declared.from_c.CVec3.{CVec3}
 use Rattle.boundary.specs.declared.to_c.CAnswer.{CAnswer}
 use Rattle.boundary.specs.declared.to_c.CCentroid.{CCentroid}
 use Rattle.boundary.specs.declared.to_c.CUvCentroid.{CUvCentroid}
+use Rattle.boundary.specs.declared.to_c.CFaces.{CFaces}
+use Rattle.boundary.specs.declared.to_c.CWindow.{CWindow}
 
 -- the number and the counts; the spare number is 0
 abbrev pub answerToC : Answer → CAnswer
@@ -27,3 +31,17 @@ centroidToC c = record { answer = answerToC (c .answer); centroid = point3ToC (c
 
 abbrev pub uvCentroidToC : UvCentroidAnswer → CUvCentroid
 uvCentroidToC c = record { answer = answerToC (c .answer); centroid = pointToC (c .centroid) }
+
+-- what is told of a job's faces; every number is 0 already where the answer is a refusal
+abbrev pub facesToC : Faces → CFaces
+facesToC t = record { answer = answerToC (t .answer); faces = t .faces }
+
+abbrev pub windowToC : Window → CWindow
+windowToC t =
+    record {
+      answer = answerToC (t .answer);
+      «first_vertex» = t .start .vertices .0;
+      «first_index» = t .start .indices .0;
+      vertices = t .size .vertices .0;
+      indices = t .size .indices .0;
+    }

@@ -1,6 +1,6 @@
 // What a caller is told: a number, 0 or that of a refusal, and the counts. The spare number is 0.
 ghost use mathlib.Core.Path.{_≡_};
-ghost use Rattle.boundary.specs.ToC.{answerToC, pointToC, point3ToC, centroidToC, uvCentroidToC};
+ghost use Rattle.boundary.specs.ToC.{answerToC, pointToC, point3ToC, centroidToC, uvCentroidToC, facesToC, windowToC};
 use crate::from_c::CVec2;
 use crate::from_c::CVec3;
 use answer::answer::Answer;
@@ -8,6 +8,8 @@ use face::vec::Vec2;
 use face::vec::Vec3;
 use mesh::stored::CentroidAnswer;
 use mesh::stored::UvCentroidAnswer;
+use mesh::windows::Faces;
+use mesh::windows::Window;
 
 #[repr(C)]
 pub struct CAnswer {
@@ -27,6 +29,21 @@ pub struct CCentroid {
 pub struct CUvCentroid {
     pub answer: CAnswer,
     pub centroid: CVec2,
+}
+
+#[repr(C)]
+pub struct CFaces {
+    pub answer: CAnswer,
+    pub faces: usize,
+}
+
+#[repr(C)]
+pub struct CWindow {
+    pub answer: CAnswer,
+    pub first_vertex: usize,
+    pub first_index: usize,
+    pub vertices: usize,
+    pub indices: usize,
 }
 
 pub fn answer_to_c(answer: Answer) -> CAnswer
@@ -78,5 +95,30 @@ pub fn uv_centroid_to_c(c: UvCentroidAnswer) -> CUvCentroid
     CUvCentroid {
         answer: answer,
         centroid: centroid,
+    }
+}
+
+pub fn faces_to_c(told: Faces) -> CFaces
+    ensures { λ r. ⌜ r ≡ facesToC told ⌝ }
+{
+    let inner = told.answer;
+    CFaces {
+        answer: answer_to_c(inner),
+        faces: told.faces,
+    }
+}
+
+pub fn window_to_c(told: Window) -> CWindow
+    ensures { λ r. ⌜ r ≡ windowToC told ⌝ }
+{
+    let inner = told.answer;
+    let start = told.start;
+    let size = told.size;
+    CWindow {
+        answer: answer_to_c(inner),
+        first_vertex: start.vertices.0,
+        first_index: start.indices.0,
+        vertices: size.vertices.0,
+        indices: size.indices.0,
     }
 }

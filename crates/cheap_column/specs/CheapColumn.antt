@@ -21,7 +21,9 @@ use Rattle.answer.specs.Checks.{inRange, inRange2, allInRange, exactly}
 use Rattle.buffers.specs.Mesh.{Vertex, Mesh, none}
 use Rattle.buffers.specs.Laying.{Buffers, lay}
 use Rattle.cheap_column.specs.declared.CheapColumn.{CheapColumn}
-use Rattle.mesh.specs.Jobs.{plannedOf, wholeOf, oneOf, builtOf, facedOf}
+use Rattle.mesh.specs.declared.windows.Faces.{Faces}
+use Rattle.mesh.specs.declared.windows.Window.{Window}
+use Rattle.mesh.specs.Jobs.{plannedOf, wholeOf, oneOf, builtOf, facedOf, facesOf, windowOf}
 use Rattle.mesh.specs.Stored.{cornerFrom}
 
 -- M3: from the middle of the top to a corner of it
@@ -72,6 +74,12 @@ built job l = builtOf (checked job l) (cheapFaces job l)
 
 abbrev pub faced : CheapColumn → List Float → ℕ → Buffers → Buffers
 faced job l = facedOf (checked job l) (cheapFaces job l)
+
+abbrev pub facesTold : CheapColumn → List Float → Faces
+facesTold job l = facesOf (checked job l) (cheapFaces job l)
+
+abbrev pub windowTold : CheapColumn → List Float → ℕ → Window
+windowTold job l = windowOf (checked job l) (cheapFaces job l)
 
 -- room for all that is laid, and what a done answer says: that room, and twelve numbers
 abbrev pub Roomed : Buffers → Type 0

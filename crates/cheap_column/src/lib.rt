@@ -10,7 +10,7 @@ ghost use Rattle.buffers.specs.Mesh.{none};
 ghost use Rattle.buffers.specs.Laying.{three, two, corners, spread, laid, lay};
 ghost use Rattle.buffers.specs.Lent.{lending, entering, become};
 ghost use Rattle.mesh.specs.Stored.{cornerFrom};
-ghost use Rattle.cheap_column.specs.CheapColumn.{meshOver, cheapTriangles, rangeOf, planned, wholeAnswer, faceAnswer, built, faced, Roomed, Ready, cheapIfDone};
+ghost use Rattle.cheap_column.specs.CheapColumn.{meshOver, cheapTriangles, rangeOf, planned, wholeAnswer, faceAnswer, built, faced, facesTold, windowTold, Roomed, Ready, cheapIfDone};
 use answer::answer::Answer;
 use answer::answer::Refusal;
 use face::triangle::Counts;
@@ -18,6 +18,8 @@ use face::triangle::IndexPlace;
 use face::triangle::VertexNumber;
 use face::vec::Vec2;
 use face::vec::Vec3;
+use mesh::windows::Faces;
+use mesh::windows::Window;
 
 // The middle of the hexagon and the height of its top; the six corners come in a list of twelve
 // numbers, the hexagon's own as the layout places them.
@@ -221,6 +223,21 @@ pub fn plan(job: CheapColumn, corners: &[f32]) -> Answer
         });
     }
     Answer::Refused(Refusal::Range)
+}
+
+// How many faces the job has, or why it is refused.
+pub fn faces(job: CheapColumn, corners: &[f32]) -> Faces
+    ensures { λ r. ⌜ r ≡ facesTold job (now (corners .entry)) ⌝ }
+{
+    mesh::windows::faces_if_done(plan(job, corners), 1)
+}
+
+// The places of a face, by its number: those of all, as there is one face.
+pub fn window(job: CheapColumn, corners: &[f32], number: usize) -> Window
+    ensures { λ r. ⌜ r ≡ windowTold job (now (corners .entry)) number ⌝ }
+{
+    let answer = answer::answer::name(plan(job, corners), number, 1);
+    mesh::windows::window_of_all(answer)
 }
 
 pub fn build(

@@ -1,3 +1,4 @@
 pub mod Counts
 pub mod Numbering
+pub mod Telling
 pub mod Parts

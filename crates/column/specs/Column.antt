@@ -26,7 +26,9 @@ use Rattle.buffers.specs.Mesh.{Mesh, none}
 use Rattle.buffers.specs.Lent.{Lent}
 use Rattle.buffers.specs.Faces.{wallMesh}
 use Rattle.mesh.specs.Stored.{uvFrom}
-use Rattle.mesh.specs.Jobs.{plannedOf}
+use Rattle.mesh.specs.declared.windows.Faces.{Faces}
+use Rattle.mesh.specs.declared.windows.Window.{Window}
+use Rattle.mesh.specs.Jobs.{plannedOf, facesOf, windowOf}
 use Rattle.plane_builder.specs.Cap.{capMesh}
 use Rattle.column.specs.declared.Subdivisions.{Subdivisions}
 use Rattle.column.specs.declared.Subdivisions.the-variants as subdivisions
@@ -154,3 +156,9 @@ checked job ls rest = given (shapeOf job ls) Shape (given (rangeOf job ls) Range
 
 abbrev pub planned : Column → Lists → Answer
 planned job ls = plannedOf (checked job ls) (columnFaces job ls)
+
+abbrev pub facesTold : Column → Lists → Faces
+facesTold job ls = facesOf (checked job ls) (columnFaces job ls)
+
+abbrev pub windowTold : Column → Lists → ℕ → Window
+windowTold job ls = windowOf (checked job ls) (columnFaces job ls)

@@ -1,4 +1,4 @@
--- Which face a number is, and where it starts, without a walk over the parts; B2 and R16 are rows of docs/TRACE.md. Definitions only.
+-- Which face a number is, where it starts and what it takes, without a walk over the parts; B2, I5 and R16 are rows of docs/TRACE.md. Definitions only.
 use mathlib.Core.Bool.{cond}
 use mathlib.Core.List.{List}
 use Prim.Native.Nat.{ℕ}
@@ -45,3 +45,9 @@ startBy job ns ms (OfSide d p) =
     also (sidesCounts ns ms (partsOf (job .subdivisions)) (job .sides) d) (many p (insetCounts (optionFor ns ms (sideAt (job .sides) d) .inset) 4 2))
 startBy job ns ms Top = sidesCounts ns ms (partsOf (job .subdivisions)) (job .sides) 6
 startBy job ns ms Bottom = also (sidesCounts ns ms (partsOf (job .subdivisions)) (job .sides) 6) (capCounts ns ms (job .top))
+
+-- I5, I9: the counts of a face
+abbrev pub sizeBy : Column → List Float → List ℕ → Name → Counts
+sizeBy job ns ms (OfSide d p) = insetCounts (optionFor ns ms (sideAt (job .sides) d) .inset) 4 2
+sizeBy job ns ms Top = insetCounts (optionFor ns ms (job .top) .inset) 6 4
+sizeBy job ns ms Bottom = insetCounts (optionFor ns ms (job .bottom) .inset) 6 4

@@ -1,8 +1,9 @@
 // What a column is, after column_builder.rs of hexx: its job, its tests and its counts; in names.rt the numbers of its
-// faces, in wall.rt a side and in caps.rt where the caps stand. All by value.
+// faces, in window.rt their places, in wall.rt a side and in caps.rt where the caps stand. All by value.
 pub mod caps;
 pub mod names;
 pub mod wall;
+pub mod window;
 
 ghost use mathlib.Core.Path.{_≡_};
 ghost use mathlib.Core.List.{[]};

@@ -3,7 +3,7 @@ use mathlib.Core.Path.{_≡_, sym, ap, _∙_}
 use mathlib.Core.Bool.{true}
 use Prim.Native.Nat.{ℕ, _<_}
 use native.Mathlib.Omega.{arith}
-use lib.ListN.{length, length-map}
+use lib.ListN.{length}
 use Rattle.face.specs.declared.triangle.Counts.{Counts}
 use Rattle.answer.specs.declared.answer.Answer.the-variants.{Done}
 use Rattle.buffers.specs.Mesh.{none, measure}
@@ -15,15 +15,13 @@ use Rattle.column.specs.declared.Name.{Name}
 use Rattle.column.specs.Column.{Lists, columnNames, meshOf, columnFaces, checked}
 use Rattle.column.specs.Names.{startBy}
 use Rattle.column.proofs.Numbering.{Stands}
+use Rattle.column.proofs.Telling.{face-total}
 use Rattle.column_builder.specs.Calls.{faceAnswer}
 use Rattle.column_builder.proofs.Whole.{passes}
 
 module _ (job : Column) (ls : Lists) where
-  pub face-total : length (columnNames job) ≡ length (columnFaces job ls)
-  face-total = sym (length-map (columnNames job) (meshOf job ls))
-
   pub face-ready : (k : ℕ) (B : Buffers) (d : Counts) → faceAnswer job ls k B ≡ Done d → (fits none (measure (columnFaces job ls)) B ≡ true) × (k < length (columnNames job))
-  face-ready k B d e = let r = face-room (checked job ls) (columnFaces job ls) (passes job ls) k B d e in (r .0, omega (arith, r .1, face-total))
+  face-ready k B d e = let r = face-room (checked job ls) (columnFaces job ls) (passes job ls) k B d e in (r .0, omega (arith, r .1, face-total job ls))
 
   pub stands-laid : (k : ℕ) (n : Name) (B : Buffers) → Stands job k n → fits none (measure (columnFaces job ls)) B ≡ true
       → laidIfFits (meshOf job ls n) (startBy job (ls .numbers) (ls .marks) n) B ≡ layOne (columnFaces job ls) k none B

@@ -1,5 +1,5 @@
 -- Every bench case holds: plans through their counts in closed form, with no walk over thousands of faces, and
--- the rest by laws of the crates below. Assumes nothing.
+-- the rest by laws of the crates below. Beside them the windows of a small column. Assumes nothing.
 use mathlib.Core.Path.{_≡_, refl, ap, _∙_}
 use mathlib.Core.Bool.{Bool, true, false}
 use mathlib.Core.List.{List, [], _∷_, _++_}
@@ -9,17 +9,23 @@ use Rattle.arith.proofs.Bench.{root-of-two, root-of-least, fused-once}
 use Rattle.face.specs.declared.triangle.Counts.{Counts}
 use Rattle.face.specs.declared.inset.Inset.the-variants.{Centroid, SmallestEdge}
 use Rattle.face.specs.Vec.{f0, f1}
-use Rattle.face.specs.Triangles.{tri, quadTriangles, insetTriangles, insetCounts}
+use Rattle.face.specs.Triangles.{tri, counts, quadTriangles, insetTriangles, insetCounts}
+use Rattle.buffers.specs.Mesh.{none}
+use Rattle.buffers.specs.Faces as Faces
 use Rattle.buffers.proofs.Faces.{quad-size, hexagon-size}
 use Rattle.face.proofs.Bench as face
+use Rattle.answer.specs.declared.answer.Refusal.the-variants.{NoFace}
 use Rattle.answer.specs.declared.answer.Answer.{Answer}
+use Rattle.answer.specs.declared.answer.Answer.the-variants.{Done, Refused}
 use Rattle.answer.specs.Answers.{limited, numberOf, countsOf}
+use Rattle.placement.specs.declared.options.Choice.the-variants as option
+use Rattle.column.specs.declared.Subdivisions.the-variants as subdivisions
 use Rattle.column.specs.declared.Column.{Column}
-use Rattle.column.specs.Column.{checked}
+use Rattle.column.specs.Column.{columnNames, meshOf, checked}
 use Rattle.column.specs.Counts.{columnCounts}
 use Rattle.column.proofs.Counts.{column-counts}
-use Rattle.demands.specs.Job.{OfColumn, planned}
-use Rattle.demands.specs.Bench.{zeroLists, Case, Plan, Summed, Quads, Hexagons, Connected, Rooted, Fused, Holds, All, bits, plans, insets, numbers, benchCases}
+use Rattle.demands.specs.Job.{Job, OfColumn, planned, facesTold, windowTold}
+use Rattle.demands.specs.Bench.{plain, column, three, zeroLists, Case, Plan, Summed, Quads, Hexagons, Connected, Rooted, Fused, Holds, All, bits, plans, insets, numbers, benchCases}
 
 -- ---- plans: the answer by the counts in closed form is the plan
 abbrev byCounts : Column → Answer
@@ -118,3 +124,15 @@ both-shown (c ∷ cs) ds s t = (s .0, both-shown cs ds (s .1) t)
 -- C1: all of them, as one statement
 pub bench-cases : All benchCases
 bench-cases = all-hold benchCases (both-shown plans (insets ++ numbers) plans-shown (both-shown insets numbers insets-shown numbers-shown))
+
+-- ---- three sides of two parts and a top: the last part, the top after it, and no eighth face
+abbrev small : Job
+small = OfColumn (column three plain option.Absent (subdivisions.Of 2)) zeroLists
+
+pub column-windows :
+    (facesTold small ≡ record { answer = Done (counts 30 48); faces = 7 })
+    × (windowTold small 5 ≡ record { answer = Done (counts 30 48); start = counts 20 30; size = counts 4 6 })
+    × (windowTold small 6 ≡ record { answer = Done (counts 30 48); start = counts 24 36; size = counts 6 12 })
+    × (windowTold small 7 ≡ record { answer = Refused NoFace; start = none; size = none })
+unfolding ofBits neg le columnNames meshOf Faces.quadMesh Faces.hexagonMesh
+column-windows = (refl, refl, refl, refl)

@@ -1,6 +1,6 @@
--- What holds of every job, whatever its kind, of the answers and buffers that its three functions promise.
+-- What holds of every job, whatever its kind, of the answers, buffers and places that its functions promise.
 -- Assumes nothing.
-use mathlib.Core.Path.{_≡_, refl, sym, ap, subst, _∙_}
+use mathlib.Core.Path.{_≡_, refl, sym, ap, ap₂, subst, _∙_}
 use mathlib.Core.Logic.{⊎-elim, inl, inr}
 use mathlib.Core.List.{List, [], _∷_, _++_}
 use Prim.Native.Nat.{ℕ, zero, suc, _+_, _*_, _<_, _≤_, min}
@@ -14,17 +14,20 @@ use Rattle.answer.specs.declared.answer.Answer.{Answer}
 use Rattle.answer.specs.declared.answer.Answer.the-variants.{Done, Refused}
 use Rattle.answer.specs.Answers.{Short, numberOf, limited, after}
 use Rattle.answer.proofs.Laws.{done-limited, named-done, roomed-done, after-done, after-refused}
-use Rattle.buffers.specs.Mesh.{Mesh, none, also, measure, startOf, joined}
+use Rattle.buffers.specs.Mesh.{Mesh, none, also, sizeOf, measure, startOf, joined}
 use Rattle.buffers.specs.Laying.{Buffers, layAll, layOne}
 use Rattle.buffers.specs.Steps.{Step, Lays, Refuses, Named}
 use Rattle.buffers.specs.Windows.{AlikeOutside, SameLengths, Holds, Within, Own, AllOwn, InFace, faceAt}
 use Rattle.buffers.proofs.Order.{same-four, lay-lengths, one-lengths, lengths-same, lengths-then}
-use Rattle.buffers.proofs.Windows.{none-also, one-inside, windows-apart, floats-covered, indices-covered}
+use Rattle.buffers.proofs.Windows.{none-also, next-start, last-end, one-inside, windows-apart, floats-covered, indices-covered}
 use Rattle.buffers.proofs.Faces.{FewIndices}
 use Rattle.buffers.proofs.Joined.{few-indices, held-own, all-is-joined, all-inside, all-outside}
-use Rattle.mesh.specs.Jobs.{RoomIn, ShortIn, plannedOf, wholeOf, oneOf, builtOf, facedOf, calls}
+use Rattle.mesh.specs.declared.windows.Faces.{Faces}
+use Rattle.mesh.specs.declared.windows.Window.{Window}
+use Rattle.mesh.specs.Jobs.{RoomIn, ShortIn, plannedOf, wholeOf, oneOf, builtOf, facedOf, facesBy, facesOf, windowBy, windowOf, calls}
 use Rattle.mesh.specs.Stored as stored
 use Rattle.mesh.proofs.Jobs as jobs
+use Rattle.mesh.proofs.Places as places
 use Rattle.mesh.proofs.Jobs.{plan-and-build, refused-plan, any-calls, only-its-places, no-places, face-answer, no-face-answer}
 use Rattle.merge.specs.Merge.{mergeAnswer, appended}
 use Rattle.cheap_column.specs.CheapColumn as cheap
@@ -35,7 +38,7 @@ use Rattle.column.specs.Column as column
 use Rattle.column_builder.proofs.Whole as columnLaws
 use Rattle.heightmap.specs.Tests as mapTests
 use Rattle.heightmap.proofs.Faces as mapLaws
-use Rattle.demands.specs.Job.{Job, OfCheapColumn, OfPlane, OfColumn, OfMap, faces, planned, wholeAnswer, faceAnswer, built, faced}
+use Rattle.demands.specs.Job.{Job, OfCheapColumn, OfPlane, OfColumn, OfMap, faces, planned, wholeAnswer, faceAnswer, built, faced, facesTold, windowTold}
 use Rattle.demands.specs.Calls.{Call, Build, Face, Merge, Scale, Offset, TextureScale, Centroid, UvCentroid, answerOf, leaves, Lengths, first, before, leavesFirst, InRun, OwnFace, Other, run, OthersRefused, Among}
 
 -- ---- each kind is its own tests and its faces: what its functions promise is what `Jobs` says of those
@@ -74,6 +77,18 @@ faced-is (OfCheapColumn job l) k B = refl
 faced-is (OfPlane job ls) k B = refl
 faced-is (OfColumn job ls) k B = refl
 faced-is (OfMap job ls) k B = refl
+
+told-is : (job : Job) → facesTold job ≡ facesOf (checked job) (faces job)
+told-is (OfCheapColumn job l) = refl
+told-is (OfPlane job ls) = refl
+told-is (OfColumn job ls) = refl
+told-is (OfMap job ls) = refl
+
+window-is : (job : Job) (k : ℕ) → windowTold job k ≡ windowOf (checked job) (faces job) k
+window-is (OfCheapColumn job l) k = refl
+window-is (OfPlane job ls) k = refl
+window-is (OfColumn job ls) k = refl
+window-is (OfMap job ls) k = refl
 
 -- its own tests change no answer
 passes : (job : Job) (a : Answer) (d : Counts) → checked job a ≡ Done d → a ≡ Done d
@@ -178,6 +193,87 @@ floats-in-faces job n = floats-covered n (faces job)
 
 pub indices-in-faces : (job : Job) (p : ℕ) → p < measure (faces job) .indices .0 → Within (λ k. startOf (faces job) k .indices .0) (length (faces job)) p
 indices-in-faces job = indices-covered (faces job)
+
+-- ---- R12: how many faces an accepted job has is told, and a window is told exactly where its number is one of them
+pub faces-told : (job : Job) (c : Counts) → planned job ≡ Done c → facesTold job ≡ record { answer = Done c; faces = length (faces job) }
+faces-told job c p = told-is job ∙ places.told-faces (checked job) (faces job) c (sym (planned-is job) ∙ p)
+
+pub window-told : (job : Job) (c : Counts) → planned job ≡ Done c → (k : ℕ) → k < facesTold job .faces
+    → windowTold job k ≡ record { answer = Done c; start = startOf (faces job) k; size = sizeOf (faceAt (faces job) k) }
+window-told job c p k h =
+    window-is job k
+    ∙ places.told-window (checked job) (faces job) c (sym (planned-is job) ∙ p) k (rw (ap (λ (t : Faces). t .faces) (faces-told job c p)) at h)
+
+pub done-window : (job : Job) (k : ℕ) (c : Counts) → windowTold job k .answer ≡ Done c → (planned job ≡ Done c) × (k < facesTold job .faces)
+done-window job k c e =
+    let r = places.done-window (checked job) (faces job) c k (ap (λ (w : Window). w .answer) (sym (window-is job k)) ∙ e) in
+    let p = planned-is job ∙ r .0 in
+    (p, rw (ap (λ (t : Faces). t .faces) (faces-told job c p)) (r .1))
+
+-- R10: beside a refusal every number is 0
+pub nothing-told : (job : Job) (k : ℕ) (e : Refusal) → (facesTold job .answer ≡ Refused e → facesTold job .faces ≡ 0)
+    × (windowTold job k .answer ≡ Refused e → (windowTold job k .start ≡ none) × (windowTold job k .size ≡ none))
+nothing-told job k e = (
+  λ h. rw (told-is job) (ap (λ (a : Answer). facesBy a (length (faces job)) .faces) (ap (λ (t : Faces). t .answer) (sym (told-is job)) ∙ h)),
+  λ h.
+      let a : windowOf (checked job) (faces job) k .answer ≡ Refused e = ap (λ (w : Window). w .answer) (sym (window-is job k)) ∙ h in
+      let s = startOf (faces job) k in
+      let z = sizeOf (faceAt (faces job) k) in
+      (ap (λ (w : Window). w .start) (window-is job k) ∙ ap (λ (x : Answer). windowBy x s z .start) a, ap (λ (w : Window). w .size) (window-is job k) ∙ ap (λ (x : Answer). windowBy x s z .size) a),
+)
+
+-- ---- R16, R17: a done window is from where its face starts to where the next one does, in the words of all that is said
+-- of faces here
+module _ (job : Job) (k : ℕ) (c : Counts) (e : windowTold job k .answer ≡ Done c) where
+  abbrev window : Window
+  window = windowTold job k
+
+  there : k < length (faces job)
+  there = rw (ap (λ (t : Faces). t .faces) (faces-told job c (done-window job k c e .0))) at (done-window job k c e .1)
+
+  told : window ≡ record { answer = Done c; start = startOf (faces job) k; size = sizeOf (faceAt (faces job) k) }
+  told = window-told job c (done-window job k c e .0) k (done-window job k c e .1)
+
+  pub window-starts : window .start ≡ startOf (faces job) k
+  window-starts = ap (λ (w : Window). w .start) told
+
+  pub window-size : window .size ≡ sizeOf (faceAt (faces job) k)
+  window-size = ap (λ (w : Window). w .size) told
+
+  pub window-ends : also (window .start) (window .size) ≡ startOf (faces job) (suc k)
+  window-ends = ap₂ also window-starts window-size ∙ sym (next-start (faces job) k there)
+
+  -- X6: the face call writes these places alone, and done it fills them with the face
+  pub window-alone : (B : Buffers) → AlikeOutside (window .start) (also (window .start) (window .size)) B (faced job k B)
+  window-alone B = rw (window-ends, window-starts) (only-its-face job k B there)
+
+  pub window-filled : (B : Buffers) → RoomIn c B → Holds (faceAt (faces job) k) (window .start) (faced job k B)
+  window-filled B r = rw window-starts (whole-face job k B c (face-is-done job c (done-window job k c e .0) k B r there))
+
+  -- the last window ends where the plan does
+  pub last-window : suc k ≡ facesTold job .faces → also (window .start) (window .size) ≡ c
+  last-window l =
+      let p = done-window job k c e .0 in
+      window-ends
+      ∙ ap (startOf (faces job)) (l ∙ ap (λ (t : Faces). t .faces) (faces-told job c p))
+      ∙ last-end (faces job)
+      ∙ counts-are-sums job c p .1
+
+-- the first starts at nothing, and each next one where the one before it ends
+pub first-window : (job : Job) (c : Counts) → windowTold job 0 .answer ≡ Done c → windowTold job 0 .start ≡ none
+first-window job c e = window-starts job 0 c e
+
+pub next-window : (job : Job) (k : ℕ) (c : Counts) → windowTold job (suc k) .answer ≡ Done c → windowTold job (suc k) .start ≡ also (windowTold job k .start) (windowTold job k .size)
+next-window job k c e =
+    let d = done-window job (suc k) c e in
+    window-starts job (suc k) c e ∙ sym (window-ends job k c (ap (λ (w : Window). w .answer) (window-told job c (d .0) k (omega (arith, d .1)))))
+
+-- so that no two meet
+pub windows-do-not-meet : (job : Job) (j k : ℕ) (c : Counts) → j < k → windowTold job j .answer ≡ Done c → windowTold job k .answer ≡ Done c
+    → (also (windowTold job j .start) (windowTold job j .size) .vertices .0 ≤ windowTold job k .start .vertices .0)
+    × (also (windowTold job j .start) (windowTold job j .size) .indices .0 ≤ windowTold job k .start .indices .0)
+windows-do-not-meet job j k c h d e =
+    rw (window-starts job j c d, window-size job j c d, window-starts job k c e) (faces-apart job j k h (there job j c d))
 
 -- ---- S4, S5: a done build leaves the one mesh of all faces, end to end, and nothing past it
 pub built-mesh : (job : Job) (B : Buffers) (c : Counts) → wholeAnswer job B ≡ Done c → Holds (joined (faces job)) none (built job B)

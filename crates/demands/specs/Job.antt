@@ -5,6 +5,8 @@ use lib.Ieee.{Float}
 use Rattle.answer.specs.declared.answer.Answer.{Answer}
 use Rattle.buffers.specs.Mesh.{Mesh}
 use Rattle.buffers.specs.Laying.{Buffers}
+use Rattle.mesh.specs.declared.windows.Faces.{Faces}
+use Rattle.mesh.specs.declared.windows.Window.{Window}
 use Rattle.cheap_column.specs.declared.CheapColumn.{CheapColumn}
 use Rattle.cheap_column.specs.CheapColumn as cheap
 use Rattle.plane_builder.specs.declared.Plane.{Plane}
@@ -31,7 +33,7 @@ faces (OfPlane job ls) = plane.planeFaces job ls
 faces (OfColumn job ls) = column.columnFaces job ls
 faces (OfMap job ls) = heightmap.mapFaces job ls
 
--- ---- what the three calls of each kind promise
+-- ---- what the calls of each kind promise
 abbrev pub planned : Job → Answer
 planned (OfCheapColumn job l) = cheap.planned job l
 planned (OfPlane job ls) = plane.planned job ls
@@ -61,3 +63,15 @@ faced (OfCheapColumn job l) = cheap.faced job l
 faced (OfPlane job ls) = plane.faced job ls
 faced (OfColumn job ls) = columnCalls.faced job ls
 faced (OfMap job ls) = mapCalls.faced job ls
+
+abbrev pub facesTold : Job → Faces
+facesTold (OfCheapColumn job l) = cheap.facesTold job l
+facesTold (OfPlane job ls) = plane.facesTold job ls
+facesTold (OfColumn job ls) = column.facesTold job ls
+facesTold (OfMap job ls) = mapCalls.facesTold job ls
+
+abbrev pub windowTold : Job → ℕ → Window
+windowTold (OfCheapColumn job l) = cheap.windowTold job l
+windowTold (OfPlane job ls) = plane.windowTold job ls
+windowTold (OfColumn job ls) = column.windowTold job ls
+windowTold (OfMap job ls) = mapCalls.windowTold job ls

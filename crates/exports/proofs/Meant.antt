@@ -5,7 +5,6 @@ use Rattle.answer.specs.declared.answer.Refusal.the-variants.{Shape}
 use Rattle.answer.specs.declared.answer.Answer.{Answer}
 use Rattle.answer.specs.declared.answer.Answer.the-variants.{Refused}
 use Rattle.answer.specs.Answers.{given}
-use Rattle.buffers.specs.Laying.{Buffers}
 use Rattle.boundary.specs.declared.jobs.CHeightMap.{CHeightMap}
 use Rattle.boundary.specs.FromC.{isFringe}
 
@@ -16,8 +15,8 @@ module _ (job : CHeightMap) where
   pub unmeant : (x : Answer) → isFringe (job .fringe) ≡ false → Refused Shape ≡ given (isFringe (job .fringe)) Shape x
   unmeant x e = sym (ap (λ (b : Bool). given b Shape x) e)
 
-  pub kept : (C X : Buffers) → isFringe (job .fringe) ≡ true → C ≡ cond (isFringe (job .fringe)) C X
+  pub kept : {A : Type 0} (C X : A) → isFringe (job .fringe) ≡ true → C ≡ cond (isFringe (job .fringe)) C X
   kept C X e = sym (ap (λ (b : Bool). cond b C X) e)
 
-  pub unkept : (C X : Buffers) → isFringe (job .fringe) ≡ false → X ≡ cond (isFringe (job .fringe)) C X
+  pub unkept : {A : Type 0} (C X : A) → isFringe (job .fringe) ≡ false → X ≡ cond (isFringe (job .fringe)) C X
   unkept C X e = sym (ap (λ (b : Bool). cond b C X) e)

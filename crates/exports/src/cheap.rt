@@ -1,11 +1,13 @@
 // The cheap column: six corners in a list of twelve numbers.
 ghost use mathlib.Core.Path.{_≡_};
 ghost use Rattle.buffers.specs.Lent.{entering, become};
-ghost use Rattle.cheap_column.specs.CheapColumn.{planned, wholeAnswer, faceAnswer, built, faced};
+ghost use Rattle.cheap_column.specs.CheapColumn.{planned, wholeAnswer, faceAnswer, built, faced, facesTold, windowTold};
 ghost use Rattle.boundary.specs.FromC.{cheapColumnOf};
-ghost use Rattle.boundary.specs.ToC.{answerToC};
+ghost use Rattle.boundary.specs.ToC.{answerToC, facesToC, windowToC};
 use boundary::jobs::CCheapColumn;
 use boundary::to_c::CAnswer;
+use boundary::to_c::CFaces;
+use boundary::to_c::CWindow;
 
 // The counts of the job, or why it is refused.
 #[no_mangle]
@@ -13,6 +15,30 @@ pub extern "C" fn hosirekar_cheap_column_plan(job: CCheapColumn, corners: &[f32]
     ensures { λ r. ⌜ r ≡ answerToC (planned (cheapColumnOf job) (now (corners .entry))) ⌝ }
 {
     boundary::to_c::answer_to_c(cheap_column::plan(boundary::jobs::cheap_column_of(job), corners))
+}
+
+// How many faces the job has, or why it is refused.
+#[no_mangle]
+pub extern "C" fn hosirekar_cheap_column_faces(job: CCheapColumn, corners: &[f32]) -> CFaces
+    ensures { λ r. ⌜ r ≡ facesToC (facesTold (cheapColumnOf job) (now (corners .entry))) ⌝ }
+{
+    boundary::to_c::faces_to_c(cheap_column::faces(boundary::jobs::cheap_column_of(job), corners))
+}
+
+// The places of one face of the job, by its number, or why there are none.
+#[no_mangle]
+pub extern "C" fn hosirekar_cheap_column_window(
+    job: CCheapColumn,
+    corners: &[f32],
+    number: usize,
+) -> CWindow
+    ensures { λ r. ⌜ r ≡ windowToC (windowTold (cheapColumnOf job) (now (corners .entry)) number) ⌝ }
+{
+    boundary::to_c::window_to_c(cheap_column::window(
+        boundary::jobs::cheap_column_of(job),
+        corners,
+        number,
+    ))
 }
 
 // The whole job, written to four buffers, or nothing.

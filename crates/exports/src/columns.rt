@@ -2,12 +2,14 @@
 // table of options in two lists.
 ghost use mathlib.Core.Path.{_≡_};
 ghost use Rattle.buffers.specs.Lent.{entering, become};
-ghost use Rattle.column.specs.Column.{lent, planned};
+ghost use Rattle.column.specs.Column.{lent, planned, facesTold, windowTold};
 ghost use Rattle.column_builder.specs.Calls.{wholeAnswer, faceAnswer, built, faced};
 ghost use Rattle.boundary.specs.FromC.{columnOf};
-ghost use Rattle.boundary.specs.ToC.{answerToC};
+ghost use Rattle.boundary.specs.ToC.{answerToC, facesToC, windowToC};
 use boundary::jobs::CColumn;
 use boundary::to_c::CAnswer;
+use boundary::to_c::CFaces;
+use boundary::to_c::CWindow;
 
 // The counts of the job, or why it is refused.
 #[no_mangle]
@@ -26,6 +28,48 @@ pub extern "C" fn hosirekar_column_plan(
         corners,
         numbers,
         marks,
+    ))
+}
+
+// How many faces the job has, or why it is refused.
+#[no_mangle]
+pub extern "C" fn hosirekar_column_faces(
+    job: CColumn,
+    pairs: &[f32],
+    corners: &[f32],
+    numbers: &[f32],
+    marks: &[u8],
+) -> CFaces
+    ensures { λ r. ⌜ r ≡ facesToC (facesTold (columnOf job) (lent pairs corners numbers marks)) ⌝ }
+{
+    boundary::to_c::faces_to_c(column::window::faces(
+        boundary::jobs::column_of(job),
+        pairs,
+        corners,
+        numbers,
+        marks,
+    ))
+}
+
+// The places of one face of the job, by its number, or why there are none.
+#[no_mangle]
+pub extern "C" fn hosirekar_column_window(
+    job: CColumn,
+    pairs: &[f32],
+    corners: &[f32],
+    numbers: &[f32],
+    marks: &[u8],
+    number: usize,
+) -> CWindow
+    ensures { λ r. ⌜ r ≡ windowToC (windowTold (columnOf job) (lent pairs corners numbers marks) number) ⌝ }
+{
+    boundary::to_c::window_to_c(column::window::window(
+        boundary::jobs::column_of(job),
+        pairs,
+        corners,
+        numbers,
+        marks,
+        number,
     ))
 }
 

@@ -4,12 +4,14 @@
 ghost use mathlib.Core.Path.{_≡_};
 ghost use Rattle.buffers.specs.Lent.{entering, become};
 ghost use Rattle.heightmap.specs.HeightMap.{lent};
-ghost use Rattle.boundary.specs.Maps.{mapPlanned, mapWhole, mapFace, mapBuilt, mapFaced};
-ghost use Rattle.boundary.specs.ToC.{answerToC};
+ghost use Rattle.boundary.specs.Maps.{mapPlanned, mapWhole, mapFace, mapBuilt, mapFaced, mapFacesTold, mapWindowTold};
+ghost use Rattle.boundary.specs.ToC.{answerToC, facesToC, windowToC};
 use answer::answer::Answer;
 use answer::answer::Refusal;
 use boundary::jobs::CHeightMap;
 use boundary::to_c::CAnswer;
+use boundary::to_c::CFaces;
+use boundary::to_c::CWindow;
 
 // The counts of the job, or why it is refused.
 #[no_mangle]
@@ -38,6 +40,68 @@ pub extern "C" fn hosirekar_heightmap_plan(
         ));
     }
     boundary::to_c::answer_to_c(Answer::Refused(Refusal::Shape))
+}
+
+// How many faces the job has, or why it is refused.
+#[no_mangle]
+pub extern "C" fn hosirekar_heightmap_faces(
+    job: CHeightMap,
+    cells: &[f32],
+    neighbours: &[u32],
+    fringe: &[f32],
+    customs: &[u8],
+    corners: &[f32],
+    numbers: &[f32],
+    marks: &[u8],
+) -> CFaces
+    ensures { λ r. ⌜ r ≡ facesToC (mapFacesTold job (lent cells neighbours fringe customs corners numbers marks)) ⌝ }
+{
+    if boundary::jobs::is_fringe(job.fringe) {
+        return boundary::to_c::faces_to_c(heightmap_plan::window::faces(
+            boundary::jobs::heightmap_of(job),
+            cells,
+            neighbours,
+            fringe,
+            customs,
+            corners,
+            numbers,
+            marks,
+        ));
+    }
+    let refused = Answer::Refused(Refusal::Shape);
+    boundary::to_c::faces_to_c(mesh::windows::faces_if_done(refused, 0))
+}
+
+// The places of one face of the job, by its number, or why there are none.
+#[no_mangle]
+pub extern "C" fn hosirekar_heightmap_window(
+    job: CHeightMap,
+    cells: &[f32],
+    neighbours: &[u32],
+    fringe: &[f32],
+    customs: &[u8],
+    corners: &[f32],
+    numbers: &[f32],
+    marks: &[u8],
+    number: usize,
+) -> CWindow
+    ensures { λ r. ⌜ r ≡ windowToC (mapWindowTold job (lent cells neighbours fringe customs corners numbers marks) number) ⌝ }
+{
+    if boundary::jobs::is_fringe(job.fringe) {
+        return boundary::to_c::window_to_c(heightmap_plan::window::window(
+            boundary::jobs::heightmap_of(job),
+            cells,
+            neighbours,
+            fringe,
+            customs,
+            corners,
+            numbers,
+            marks,
+            number,
+        ));
+    }
+    let refused = Answer::Refused(Refusal::Shape);
+    boundary::to_c::window_to_c(mesh::windows::window_of_all(refused))
 }
 
 // The whole job, written to four buffers, or nothing.

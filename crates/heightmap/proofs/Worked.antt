@@ -8,7 +8,7 @@ use Rattle.face.specs.declared.vec.Vec2.{Vec2}
 use Rattle.face.specs.Lists.{each}
 use Rattle.face.specs.Vec.{v2, v3, f0, f1}
 use Rattle.face.specs.Triangles.{counts}
-use Rattle.answer.specs.declared.answer.Refusal.the-variants.{Shape, Range, Neighbour}
+use Rattle.answer.specs.declared.answer.Refusal.the-variants.{Shape, Range, Neighbour, NoFace}
 use Rattle.answer.specs.declared.answer.Answer.{Answer}
 use Rattle.answer.specs.declared.answer.Answer.the-variants.{Done, Refused}
 use Rattle.placement.specs.declared.options.Choice.{Choice}
@@ -17,7 +17,7 @@ use Rattle.placement.specs.declared.placement.Choice3.the-variants as choice
 use Rattle.placement.specs.declared.placement.Turn.the-variants as turn
 use Rattle.placement.specs.declared.placement.Placement.{Placement}
 use Rattle.placement.specs.Placing.{stood}
-use Rattle.buffers.specs.Mesh.{Mesh, joined}
+use Rattle.buffers.specs.Mesh.{Mesh, none, joined}
 use Rattle.buffers.specs.Laying.{three, two, spread}
 use Rattle.buffers.specs.Faces as Faces
 use Rattle.heightmap.specs.declared.Fringe.{Fringe}
@@ -36,6 +36,7 @@ use Rattle.heightmap.specs.HeightMap.{Lists, lists, sideStand, wallQuad,
 use Rattle.heightmap.specs.Counts.{cellStart, mapCounts}
 use Rattle.heightmap.specs.Tests.{tested, planned}
 use Rattle.heightmap.specs.Names.{nameAt, startBy, numberOf}
+use Rattle.heightmap.specs.Calls.{facesTold, windowTold}
 
 -- all that is computed through
 unfoldable opened : ℕ
@@ -217,6 +218,15 @@ pub starts :
     (startBy fringed (plainly edged) 5 ≡ counts 22 36) × (cellStart fringed (plainly edged) 1 ≡ counts 22 36) × (mapCounts fringed (plainly edged) ≡ counts 40 66)
 unfolding opened
 starts = (refl, refl, refl)
+
+-- the same as a caller is told it: the last side of the first cell, the cap after it, and no tenth face
+pub windows :
+    (facesTold fringed (plainly edged) ≡ record { answer = Done (counts 40 66); faces = 9 })
+    × (windowTold fringed (plainly edged) 4 ≡ record { answer = Done (counts 40 66); start = counts 18 30; size = counts 4 6 })
+    × (windowTold fringed (plainly edged) 5 ≡ record { answer = Done (counts 40 66); start = counts 22 36; size = counts 6 12 })
+    × (windowTold fringed (plainly edged) 9 ≡ record { answer = Refused NoFace; start = none; size = none })
+unfolding opened
+windows = (refl, refl, refl, refl)
 
 -- ---- B14, B15: a custom option never drops a face, nor does one that is off bring one; both are tested
 abbrev chosenFor : List ℕ → Lists

@@ -1,8 +1,10 @@
--- What a whole build and a face call of a height map answer and leave; R11 to R17 are rows of docs/TRACE.md. Definitions only.
+-- What a whole build and a face call of a height map answer and leave, and what is told of its faces; R11 to R17 are rows of docs/TRACE.md. Definitions only.
 use Prim.Native.Nat.{ℕ}
 use Rattle.answer.specs.declared.answer.Answer.{Answer}
 use Rattle.buffers.specs.Laying.{Buffers}
-use Rattle.mesh.specs.Jobs.{wholeOf, oneOf, builtOf, facedOf}
+use Rattle.mesh.specs.declared.windows.Faces.{Faces}
+use Rattle.mesh.specs.declared.windows.Window.{Window}
+use Rattle.mesh.specs.Jobs.{wholeOf, oneOf, builtOf, facedOf, facesOf, windowOf}
 use Rattle.heightmap.specs.declared.HeightMap.{HeightMap}
 use Rattle.heightmap.specs.HeightMap.{Lists, mapFaces}
 use Rattle.heightmap.specs.Tests.{checked}
@@ -22,3 +24,9 @@ built job ls = builtOf (checked job ls) (mapFaces job ls)
 -- R17: the k-th alone
 abbrev pub faced : HeightMap → Lists → ℕ → Buffers → Buffers
 faced job ls = facedOf (checked job ls) (mapFaces job ls)
+
+abbrev pub facesTold : HeightMap → Lists → Faces
+facesTold job ls = facesOf (checked job ls) (mapFaces job ls)
+
+abbrev pub windowTold : HeightMap → Lists → ℕ → Window
+windowTold job ls = windowOf (checked job ls) (mapFaces job ls)

@@ -30,7 +30,7 @@ module _ (job : HeightMap) (ls : Lists) where
   abbrev three : Bool → Bool → Bool → Answer → Answer
   three s r l rest = given s Shape (given r Range (given l Neighbour rest))
 
-  few-cells : shapeOf job ls ≡ true → cellCount (cellsIn (ls .grid .cells)) ≡ true
+  pub few-cells : shapeOf job ls ≡ true → cellCount (cellsIn (ls .grid .cells)) ≡ true
   few-cells e =
       let n = cellsIn (ls .grid .cells) in
       left (cellCount n) (exactly (length (ls .grid .cells)) n 27 && (exactly (length (ls .grid .neighbours)) n 6 && fringeShape (job .fringe) (ls .grid .fringe) n))

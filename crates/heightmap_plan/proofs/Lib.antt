@@ -1,3 +1,4 @@
 pub mod Deciding
 pub mod Finding
+pub mod Telling
 pub mod Walking

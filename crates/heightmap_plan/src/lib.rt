@@ -1,7 +1,8 @@
 // The tests of a height map and its plan, in the order of the refusals; in tally.rt its counts, in names.rt its
-// faces by their numbers. All by value.
+// faces by their numbers, in window.rt their places. All by value.
 pub mod names;
 pub mod tally;
+pub mod window;
 
 ghost use mathlib.Core.Path.{_≡_};
 ghost use mathlib.Core.List.{[]};

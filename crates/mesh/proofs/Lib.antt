@@ -1,3 +1,4 @@
 pub mod Jobs
+pub mod Places
 pub mod Moving
 pub mod Bench

@@ -1,14 +1,17 @@
--- A job of any kind: its tests before the limit, and its faces. What the three calls answer and leave is
--- said here once for every kind; R11 to R18 are rows of docs/TRACE.md. Definitions only.
+-- A job of any kind: its tests before the limit, and its faces. What the three calls answer and leave, and what is told
+-- of its faces without a buffer, is said here once for every kind; R10 to R18 are rows of docs/TRACE.md. Definitions only.
 use Prim.Native.Nat.{ℕ}
 use mathlib.Core.List.{List, [], _∷_}
 use lib.ListN.{length}
 use Rattle.face.specs.declared.triangle.Counts.{Counts}
 use Rattle.answer.specs.declared.answer.Answer.{Answer}
-use Rattle.answer.specs.Answers.{limited, named, roomed, after, Roomy, Short}
-use Rattle.buffers.specs.Mesh.{Mesh, none, measure}
+use Rattle.answer.specs.Answers.{limited, named, roomed, after, valueOf, Roomy, Short}
+use Rattle.buffers.specs.Mesh.{Mesh, none, sizeOf, measure, startOf}
 use Rattle.buffers.specs.Laying.{Buffers, layAll, layOne}
 use Rattle.buffers.specs.Steps.{Step, Lays, Refuses}
+use Rattle.buffers.specs.Windows.{faceAt}
+use Rattle.mesh.specs.declared.windows.Faces.{Faces}
+use Rattle.mesh.specs.declared.windows.Window.{Window}
 
 -- R11, R18: 1, 2, 3, which the job's own tests give, then 4; no buffer is lent
 abbrev pub plannedOf : (Answer → Answer) → List Mesh → Answer
@@ -40,7 +43,22 @@ builtOf checked fs B = after (wholeOf checked fs B) B (layAll fs none B)
 abbrev pub facedOf : (Answer → Answer) → List Mesh → ℕ → Buffers → Buffers
 facedOf checked fs k B = after (oneOf checked fs k B) B (layOne fs k none B)
 
--- X5: a run of calls on the same buffers: faces of the job, and refused calls of any kind and any job
+-- ---- what is told of the faces beside an answer, every number 0 where it is a refusal (R10)
+abbrev pub facesBy : Answer → ℕ → Faces
+facesBy a n = record { answer = a; faces = valueOf 0 a n }
+
+abbrev pub windowBy : Answer → Counts → Counts → Window
+windowBy a at size = record { answer = a; start = valueOf none a at; size = valueOf none a size }
+
+-- how many faces there are, with the plan's answer
+abbrev pub facesOf : (Answer → Answer) → List Mesh → Faces
+facesOf checked fs = facesBy (plannedOf checked fs) (length fs)
+
+-- R12, R16: where the k-th face starts and how many vertices and indices it has: the plan's refusals, then 6; no room is asked
+abbrev pub windowOf : (Answer → Answer) → List Mesh → ℕ → Window
+windowOf checked fs k = windowBy (named (plannedOf checked fs) k (length fs)) (startOf fs k) (sizeOf (faceAt fs k))
+
+-- ---- X5: a run of calls on the same buffers: faces of the job, and refused calls of any kind and any job
 abbrev pub called : (Answer → Answer) → List Mesh → Step → Buffers → Buffers
 called checked fs (Lays k) B = facedOf checked fs k B
 called checked fs Refuses B = B

@@ -17,7 +17,9 @@ use Rattle.placement.specs.Placing.{standBy, settled, placementInRange}
 use Rattle.buffers.specs.Mesh.{Mesh, none}
 use Rattle.buffers.specs.Laying.{Buffers, laidIfFits}
 use Rattle.buffers.specs.Lent.{Lent}
-use Rattle.mesh.specs.Jobs.{plannedOf, wholeOf, oneOf, builtOf, facedOf}
+use Rattle.mesh.specs.declared.windows.Faces.{Faces}
+use Rattle.mesh.specs.declared.windows.Window.{Window}
+use Rattle.mesh.specs.Jobs.{plannedOf, wholeOf, oneOf, builtOf, facedOf, facesOf, windowOf}
 use Rattle.plane_builder.specs.declared.Plane.{Plane}
 use Rattle.plane_builder.specs.Cap.{capMesh}
 
@@ -84,3 +86,9 @@ built job ls = builtOf (checked job ls) (planeFaces job ls)
 -- R17
 abbrev pub faced : Plane → Lists → ℕ → Buffers → Buffers
 faced job ls = facedOf (checked job ls) (planeFaces job ls)
+
+abbrev pub facesTold : Plane → Lists → Faces
+facesTold job ls = facesOf (checked job ls) (planeFaces job ls)
+
+abbrev pub windowTold : Plane → Lists → ℕ → Window
+windowTold job ls = windowOf (checked job ls) (planeFaces job ls)

@@ -6,13 +6,15 @@ ghost use mathlib.Core.Path.{_≡_};
 ghost use mathlib.Core.Bool.{_&&_};
 ghost use Rattle.answer.specs.Checks.{allInRange};
 ghost use Rattle.buffers.specs.Lent.{entering, become};
-ghost use Rattle.plane_builder.specs.Plane.{lent, planeMesh, laidIfDone, shapeOf, placeOf, planned, wholeAnswer, faceAnswer, built, faced};
+ghost use Rattle.plane_builder.specs.Plane.{lent, planeMesh, laidIfDone, shapeOf, placeOf, planned, wholeAnswer, faceAnswer, built, faced, facesTold, windowTold};
 use answer::answer::Answer;
 use answer::answer::Refusal;
 use face::triangle::Counts;
 use face::triangle::IndexPlace;
 use face::triangle::VertexNumber;
 use face::vec::Vec2;
+use mesh::windows::Faces;
+use mesh::windows::Window;
 use placement::placement::Choice3;
 use placement::placement::Placement;
 
@@ -69,6 +71,21 @@ pub fn plan(job: Plane, corners: &[f32], numbers: &[f32], marks: &[u8]) -> Answe
         return Answer::Refused(Refusal::Range);
     }
     Answer::Refused(Refusal::Shape)
+}
+
+// How many faces the job has, or why it is refused.
+pub fn faces(job: Plane, corners: &[f32], numbers: &[f32], marks: &[u8]) -> Faces
+    ensures { λ r. ⌜ r ≡ facesTold job (lent corners numbers marks) ⌝ }
+{
+    mesh::windows::faces_if_done(plan(job, corners, numbers, marks), 1)
+}
+
+// The places of a face, by its number: those of all, as there is one face.
+pub fn window(job: Plane, corners: &[f32], numbers: &[f32], marks: &[u8], number: usize) -> Window
+    ensures { λ r. ⌜ r ≡ windowTold job (lent corners numbers marks) number ⌝ }
+{
+    let answer = answer::answer::name(plan(job, corners, numbers, marks), number, 1);
+    mesh::windows::window_of_all(answer)
 }
 
 // The one face, if the answer is that it is done.

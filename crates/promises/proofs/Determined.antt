@@ -286,9 +286,24 @@ mesh-stored-centroid κs a x y v w p q = (determined p q, refl)
 pub mesh-stored-uv-centroid : Fixes mesh.stored.uv_centroid.ended mesh.stored.uv_centroid.Reads.Learnt
 mesh-stored-uv-centroid κs a x y v w p q = (determined p q, refl)
 
+pub mesh-windows-faces-if-done : Fixes mesh.windows.faces_if_done.ended mesh.windows.faces_if_done.Reads.Learnt
+mesh-windows-faces-if-done κs a x y v w p q = (determined p q, refl)
+
+pub mesh-windows-window-if-done : Fixes mesh.windows.window_if_done.ended mesh.windows.window_if_done.Reads.Learnt
+mesh-windows-window-if-done κs a x y v w p q = (determined p q, refl)
+
+pub mesh-windows-window-of-all : Fixes mesh.windows.window_of_all.ended mesh.windows.window_of_all.Reads.Learnt
+mesh-windows-window-of-all κs a x y v w p q = (determined p q, refl)
+
 -- ---- plane_builder
 pub plane-builder-plan : Fixes plane_builder.plan.ended plane_builder.plan.Reads.Learnt
 plane-builder-plan κs a x y v w p q = (determined p q, refl)
+
+pub plane-builder-faces : Fixes plane_builder.faces.ended plane_builder.faces.Reads.Learnt
+plane-builder-faces κs a x y v w p q = (determined p q, refl)
+
+pub plane-builder-window : Fixes plane_builder.window.ended plane_builder.window.Reads.Learnt
+plane-builder-window κs a x y v w p q = (determined p q, refl)
 
 pub plane-builder-build : Fixes plane_builder.build.ended plane_builder.build.Reads.Learnt
 plane-builder-build κs a x y v w p q = let e = determined (p .1) (q .1) in (determined (p .0) (q .0), λ i. (tt, (tt, (tt, (tt, (e i .vertices, (e i .normals, (e i .uvs, (e i .indices, tt)))))))))
@@ -311,6 +326,12 @@ plane-builder-cap-put-cap κs a x y v w p q = let e = determined p q in (refl, �
 -- ---- cheap_column
 pub cheap-column-plan : Fixes cheap_column.plan.ended cheap_column.plan.Reads.Learnt
 cheap-column-plan κs a x y v w p q = (determined p q, refl)
+
+pub cheap-column-faces : Fixes cheap_column.faces.ended cheap_column.faces.Reads.Learnt
+cheap-column-faces κs a x y v w p q = (determined p q, refl)
+
+pub cheap-column-window : Fixes cheap_column.window.ended cheap_column.window.Reads.Learnt
+cheap-column-window κs a x y v w p q = (determined p q, refl)
 
 pub cheap-column-build : Fixes cheap_column.build.ended cheap_column.build.Reads.Learnt
 cheap-column-build κs a x y v w p q = let e = determined (p .1) (q .1) in (determined (p .0) (q .0), λ i. (tt, (tt, (e i .vertices, (e i .normals, (e i .uvs, (e i .indices, tt)))))))
@@ -340,6 +361,12 @@ column-side-option κs a x y v w p q = (determined p q, refl)
 
 pub column-plan : Fixes column.plan.ended column.plan.Reads.Learnt
 column-plan κs a x y v w p q = (determined p q, refl)
+
+pub column-window-faces : Fixes column.window.faces.ended column.window.faces.Reads.Learnt
+column-window-faces κs a x y v w p q = (determined p q, refl)
+
+pub column-window-window : Fixes column.window.window.ended column.window.window.Reads.Learnt
+column-window-window κs a x y v w p q = (determined p q, refl)
 
 pub column-caps-top-stand : Fixes column.caps.top_stand.ended column.caps.top_stand.Reads.Learnt
 column-caps-top-stand κs a x y v w p q = (determined p q, refl)
@@ -401,6 +428,12 @@ boundary-to-c-centroid-to-c κs a x y v w p q = (determined p q, refl)
 
 pub boundary-to-c-uv-centroid-to-c : Fixes boundary.to_c.uv_centroid_to_c.ended boundary.to_c.uv_centroid_to_c.Reads.Learnt
 boundary-to-c-uv-centroid-to-c κs a x y v w p q = (determined p q, refl)
+
+pub boundary-to-c-faces-to-c : Fixes boundary.to_c.faces_to_c.ended boundary.to_c.faces_to_c.Reads.Learnt
+boundary-to-c-faces-to-c κs a x y v w p q = (determined p q, refl)
+
+pub boundary-to-c-window-to-c : Fixes boundary.to_c.window_to_c.ended boundary.to_c.window_to_c.Reads.Learnt
+boundary-to-c-window-to-c κs a x y v w p q = (determined p q, refl)
 
 pub boundary-jobs-is-fringe : Fixes boundary.jobs.is_fringe.ended boundary.jobs.is_fringe.Reads.Learnt
 boundary-jobs-is-fringe κs a x y v w p q = (determined p q, refl)
@@ -540,6 +573,12 @@ heightmap-plan-names-face-count κs a x y v w p q = (determined p q, refl)
 pub heightmap-plan-names-number-of : Fixes heightmap_plan.names.number_of.ended heightmap_plan.names.number_of.Reads.Learnt
 heightmap-plan-names-number-of κs a x y v w p q = (determined p q, refl)
 
+pub heightmap-plan-window-faces : Fixes heightmap_plan.window.faces.ended heightmap_plan.window.faces.Reads.Learnt
+heightmap-plan-window-faces κs a x y v w p q = (determined p q, refl)
+
+pub heightmap-plan-window-window : Fixes heightmap_plan.window.window.ended heightmap_plan.window.window.Reads.Learnt
+heightmap-plan-window-window κs a x y v w p q = (determined p q, refl)
+
 -- ---- sheet
 pub sheet-write-answer : Fixes sheet.write_answer.ended sheet.write_answer.Reads.Learnt
 sheet-write-answer κs a x y v w p q = let e = determined (p .buffer) (q .buffer) in (determined (p .count) (q .count), λ i. (tt, (e i, tt)))
@@ -547,6 +586,12 @@ sheet-write-answer κs a x y v w p q = let e = determined (p .buffer) (q .buffer
 -- ---- exports
 pub exports-cheap-hosirekar-cheap-column-plan : Fixes exports.cheap.hosirekar_cheap_column_plan.ended exports.cheap.hosirekar_cheap_column_plan.Reads.Learnt
 exports-cheap-hosirekar-cheap-column-plan κs a x y v w p q = (determined p q, refl)
+
+pub exports-cheap-hosirekar-cheap-column-faces : Fixes exports.cheap.hosirekar_cheap_column_faces.ended exports.cheap.hosirekar_cheap_column_faces.Reads.Learnt
+exports-cheap-hosirekar-cheap-column-faces κs a x y v w p q = (determined p q, refl)
+
+pub exports-cheap-hosirekar-cheap-column-window : Fixes exports.cheap.hosirekar_cheap_column_window.ended exports.cheap.hosirekar_cheap_column_window.Reads.Learnt
+exports-cheap-hosirekar-cheap-column-window κs a x y v w p q = (determined p q, refl)
 
 pub exports-cheap-hosirekar-cheap-column-build : Fixes exports.cheap.hosirekar_cheap_column_build.ended exports.cheap.hosirekar_cheap_column_build.Reads.Learnt
 exports-cheap-hosirekar-cheap-column-build κs a x y v w p q = let e = determined (p .1) (q .1) in (determined (p .0) (q .0), λ i. (tt, (tt, (e i .vertices, (e i .normals, (e i .uvs, (e i .indices, tt)))))))
@@ -556,6 +601,12 @@ exports-cheap-hosirekar-cheap-column-face κs a x y v w p q = let e = determined
 
 pub exports-columns-hosirekar-column-plan : Fixes exports.columns.hosirekar_column_plan.ended exports.columns.hosirekar_column_plan.Reads.Learnt
 exports-columns-hosirekar-column-plan κs a x y v w p q = (determined p q, refl)
+
+pub exports-columns-hosirekar-column-faces : Fixes exports.columns.hosirekar_column_faces.ended exports.columns.hosirekar_column_faces.Reads.Learnt
+exports-columns-hosirekar-column-faces κs a x y v w p q = (determined p q, refl)
+
+pub exports-columns-hosirekar-column-window : Fixes exports.columns.hosirekar_column_window.ended exports.columns.hosirekar_column_window.Reads.Learnt
+exports-columns-hosirekar-column-window κs a x y v w p q = (determined p q, refl)
 
 pub exports-columns-hosirekar-column-build : Fixes exports.columns.hosirekar_column_build.ended exports.columns.hosirekar_column_build.Reads.Learnt
 exports-columns-hosirekar-column-build κs a x y v w p q = let e = determined (p .1) (q .1) in (determined (p .0) (q .0), λ i. (tt, (tt, (tt, (tt, (tt, (e i .vertices, (e i .normals, (e i .uvs, (e i .indices, tt))))))))))
@@ -574,6 +625,12 @@ exports-numbers-hosirekar-fused κs a x y v w p q = (determined p q, refl)
 
 pub exports-plane-hosirekar-plane-plan : Fixes exports.plane.hosirekar_plane_plan.ended exports.plane.hosirekar_plane_plan.Reads.Learnt
 exports-plane-hosirekar-plane-plan κs a x y v w p q = (determined p q, refl)
+
+pub exports-plane-hosirekar-plane-faces : Fixes exports.plane.hosirekar_plane_faces.ended exports.plane.hosirekar_plane_faces.Reads.Learnt
+exports-plane-hosirekar-plane-faces κs a x y v w p q = (determined p q, refl)
+
+pub exports-plane-hosirekar-plane-window : Fixes exports.plane.hosirekar_plane_window.ended exports.plane.hosirekar_plane_window.Reads.Learnt
+exports-plane-hosirekar-plane-window κs a x y v w p q = (determined p q, refl)
 
 pub exports-plane-hosirekar-plane-build : Fixes exports.plane.hosirekar_plane_build.ended exports.plane.hosirekar_plane_build.Reads.Learnt
 exports-plane-hosirekar-plane-build κs a x y v w p q = let e = determined (p .1) (q .1) in (determined (p .0) (q .0), λ i. (tt, (tt, (tt, (tt, (e i .vertices, (e i .normals, (e i .uvs, (e i .indices, tt)))))))))
@@ -604,6 +661,12 @@ exports-texture-hosirekar-wrap-uv κs a x y v w p q = (determined p q, refl)
 
 pub exports-maps-hosirekar-heightmap-plan : Fixes exports.maps.hosirekar_heightmap_plan.ended exports.maps.hosirekar_heightmap_plan.Reads.Learnt
 exports-maps-hosirekar-heightmap-plan κs a x y v w p q = (determined p q, refl)
+
+pub exports-maps-hosirekar-heightmap-faces : Fixes exports.maps.hosirekar_heightmap_faces.ended exports.maps.hosirekar_heightmap_faces.Reads.Learnt
+exports-maps-hosirekar-heightmap-faces κs a x y v w p q = (determined p q, refl)
+
+pub exports-maps-hosirekar-heightmap-window : Fixes exports.maps.hosirekar_heightmap_window.ended exports.maps.hosirekar_heightmap_window.Reads.Learnt
+exports-maps-hosirekar-heightmap-window κs a x y v w p q = (determined p q, refl)
 
 pub exports-maps-hosirekar-heightmap-build : Fixes exports.maps.hosirekar_heightmap_build.ended exports.maps.hosirekar_heightmap_build.Reads.Learnt
 exports-maps-hosirekar-heightmap-build κs a x y v w p q = let e = determined (p .1) (q .1) in (determined (p .0) (q .0), λ i. (tt, (tt, (tt, (tt, (tt, (tt, (tt, (tt, (e i .vertices, (e i .normals, (e i .uvs, (e i .indices, tt)))))))))))))

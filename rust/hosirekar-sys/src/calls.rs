@@ -27,6 +27,50 @@ pub fn hosirekar_plane_plan(
     }
 }
 
+/// How many faces a plane has, or why it is refused.
+#[inline]
+pub fn hosirekar_plane_faces(
+    job: CPlane,
+    corners: &[f32],
+    numbers: &[f32],
+    marks: &[u8],
+) -> CFaces {
+    unsafe {
+        raw::hosirekar_plane_faces(
+            job,
+            corners.as_ptr(),
+            corners.len(),
+            numbers.as_ptr(),
+            numbers.len(),
+            marks.as_ptr(),
+            marks.len(),
+        )
+    }
+}
+
+/// The places of one face of a plane, by its number.
+#[inline]
+pub fn hosirekar_plane_window(
+    job: CPlane,
+    corners: &[f32],
+    numbers: &[f32],
+    marks: &[u8],
+    number: usize,
+) -> CWindow {
+    unsafe {
+        raw::hosirekar_plane_window(
+            job,
+            corners.as_ptr(),
+            corners.len(),
+            numbers.as_ptr(),
+            numbers.len(),
+            marks.as_ptr(),
+            marks.len(),
+            number,
+        )
+    }
+}
+
 /// A whole plane, written to four buffers, or nothing.
 #[inline]
 pub fn hosirekar_plane_build(
@@ -115,6 +159,56 @@ pub fn hosirekar_column_plan(
             numbers.len(),
             marks.as_ptr(),
             marks.len(),
+        )
+    }
+}
+
+/// How many faces a column has, or why it is refused.
+#[inline]
+pub fn hosirekar_column_faces(
+    job: CColumn,
+    pairs: &[f32],
+    corners: &[f32],
+    numbers: &[f32],
+    marks: &[u8],
+) -> CFaces {
+    unsafe {
+        raw::hosirekar_column_faces(
+            job,
+            pairs.as_ptr(),
+            pairs.len(),
+            corners.as_ptr(),
+            corners.len(),
+            numbers.as_ptr(),
+            numbers.len(),
+            marks.as_ptr(),
+            marks.len(),
+        )
+    }
+}
+
+/// The places of one face of a column, by its number.
+#[inline]
+pub fn hosirekar_column_window(
+    job: CColumn,
+    pairs: &[f32],
+    corners: &[f32],
+    numbers: &[f32],
+    marks: &[u8],
+    number: usize,
+) -> CWindow {
+    unsafe {
+        raw::hosirekar_column_window(
+            job,
+            pairs.as_ptr(),
+            pairs.len(),
+            corners.as_ptr(),
+            corners.len(),
+            numbers.as_ptr(),
+            numbers.len(),
+            marks.as_ptr(),
+            marks.len(),
+            number,
         )
     }
 }
@@ -226,6 +320,74 @@ pub fn hosirekar_heightmap_plan(
     }
 }
 
+/// How many faces a height map has, or why it is refused.
+#[inline]
+pub fn hosirekar_heightmap_faces(
+    job: CHeightMap,
+    cells: &[f32],
+    neighbours: &[u32],
+    fringe: &[f32],
+    customs: &[u8],
+    corners: &[f32],
+    numbers: &[f32],
+    marks: &[u8],
+) -> CFaces {
+    unsafe {
+        raw::hosirekar_heightmap_faces(
+            job,
+            cells.as_ptr(),
+            cells.len(),
+            neighbours.as_ptr(),
+            neighbours.len(),
+            fringe.as_ptr(),
+            fringe.len(),
+            customs.as_ptr(),
+            customs.len(),
+            corners.as_ptr(),
+            corners.len(),
+            numbers.as_ptr(),
+            numbers.len(),
+            marks.as_ptr(),
+            marks.len(),
+        )
+    }
+}
+
+/// The places of one face of a height map, by its number.
+#[inline]
+pub fn hosirekar_heightmap_window(
+    job: CHeightMap,
+    cells: &[f32],
+    neighbours: &[u32],
+    fringe: &[f32],
+    customs: &[u8],
+    corners: &[f32],
+    numbers: &[f32],
+    marks: &[u8],
+    number: usize,
+) -> CWindow {
+    unsafe {
+        raw::hosirekar_heightmap_window(
+            job,
+            cells.as_ptr(),
+            cells.len(),
+            neighbours.as_ptr(),
+            neighbours.len(),
+            fringe.as_ptr(),
+            fringe.len(),
+            customs.as_ptr(),
+            customs.len(),
+            corners.as_ptr(),
+            corners.len(),
+            numbers.as_ptr(),
+            numbers.len(),
+            marks.as_ptr(),
+            marks.len(),
+            number,
+        )
+    }
+}
+
 /// A whole height map, written to four buffers, or nothing.
 #[inline]
 pub fn hosirekar_heightmap_build(
@@ -322,6 +484,18 @@ pub fn hosirekar_heightmap_face(
 #[inline]
 pub fn hosirekar_cheap_column_plan(job: CCheapColumn, corners: &[f32]) -> CAnswer {
     unsafe { raw::hosirekar_cheap_column_plan(job, corners.as_ptr(), corners.len()) }
+}
+
+/// How many faces a cheap column has, or why it is refused.
+#[inline]
+pub fn hosirekar_cheap_column_faces(job: CCheapColumn, corners: &[f32]) -> CFaces {
+    unsafe { raw::hosirekar_cheap_column_faces(job, corners.as_ptr(), corners.len()) }
+}
+
+/// The places of one face of a cheap column, by its number.
+#[inline]
+pub fn hosirekar_cheap_column_window(job: CCheapColumn, corners: &[f32], number: usize) -> CWindow {
+    unsafe { raw::hosirekar_cheap_column_window(job, corners.as_ptr(), corners.len(), number) }
 }
 
 /// A whole cheap column, written to four buffers, or nothing.

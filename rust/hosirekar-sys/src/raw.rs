@@ -24,6 +24,27 @@ unsafe extern "C" {
         marks_len: usize,
     ) -> CAnswer;
 
+    pub fn hosirekar_plane_faces(
+        job: CPlane,
+        corners: *const f32,
+        corners_len: usize,
+        numbers: *const f32,
+        numbers_len: usize,
+        marks: *const u8,
+        marks_len: usize,
+    ) -> CFaces;
+
+    pub fn hosirekar_plane_window(
+        job: CPlane,
+        corners: *const f32,
+        corners_len: usize,
+        numbers: *const f32,
+        numbers_len: usize,
+        marks: *const u8,
+        marks_len: usize,
+        number: usize,
+    ) -> CWindow;
+
     pub fn hosirekar_plane_build(
         job: CPlane,
         corners: *const f32,
@@ -72,6 +93,31 @@ unsafe extern "C" {
         marks: *const u8,
         marks_len: usize,
     ) -> CAnswer;
+
+    pub fn hosirekar_column_faces(
+        job: CColumn,
+        pairs: *const f32,
+        pairs_len: usize,
+        corners: *const f32,
+        corners_len: usize,
+        numbers: *const f32,
+        numbers_len: usize,
+        marks: *const u8,
+        marks_len: usize,
+    ) -> CFaces;
+
+    pub fn hosirekar_column_window(
+        job: CColumn,
+        pairs: *const f32,
+        pairs_len: usize,
+        corners: *const f32,
+        corners_len: usize,
+        numbers: *const f32,
+        numbers_len: usize,
+        marks: *const u8,
+        marks_len: usize,
+        number: usize,
+    ) -> CWindow;
 
     pub fn hosirekar_column_build(
         job: CColumn,
@@ -132,6 +178,43 @@ unsafe extern "C" {
         marks_len: usize,
     ) -> CAnswer;
 
+    pub fn hosirekar_heightmap_faces(
+        job: CHeightMap,
+        cells: *const f32,
+        cells_len: usize,
+        neighbours: *const u32,
+        neighbours_len: usize,
+        fringe: *const f32,
+        fringe_len: usize,
+        customs: *const u8,
+        customs_len: usize,
+        corners: *const f32,
+        corners_len: usize,
+        numbers: *const f32,
+        numbers_len: usize,
+        marks: *const u8,
+        marks_len: usize,
+    ) -> CFaces;
+
+    pub fn hosirekar_heightmap_window(
+        job: CHeightMap,
+        cells: *const f32,
+        cells_len: usize,
+        neighbours: *const u32,
+        neighbours_len: usize,
+        fringe: *const f32,
+        fringe_len: usize,
+        customs: *const u8,
+        customs_len: usize,
+        corners: *const f32,
+        corners_len: usize,
+        numbers: *const f32,
+        numbers_len: usize,
+        marks: *const u8,
+        marks_len: usize,
+        number: usize,
+    ) -> CWindow;
+
     pub fn hosirekar_heightmap_build(
         job: CHeightMap,
         cells: *const f32,
@@ -190,6 +273,19 @@ unsafe extern "C" {
         corners: *const f32,
         corners_len: usize,
     ) -> CAnswer;
+
+    pub fn hosirekar_cheap_column_faces(
+        job: CCheapColumn,
+        corners: *const f32,
+        corners_len: usize,
+    ) -> CFaces;
+
+    pub fn hosirekar_cheap_column_window(
+        job: CCheapColumn,
+        corners: *const f32,
+        corners_len: usize,
+        number: usize,
+    ) -> CWindow;
 
     pub fn hosirekar_cheap_column_build(
         job: CCheapColumn,

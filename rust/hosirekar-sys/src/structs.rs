@@ -83,6 +83,32 @@ pub struct CAnswer {
     pub indices: usize,
 }
 
+/// An answer, and how many faces the job has: 0 where it was refused.
+#[repr(C)]
+#[derive(Clone, Copy, Debug, Default, PartialEq, Eq)]
+pub struct CFaces {
+    /// That of the plan.
+    pub answer: CAnswer,
+    /// Their numbers are those below it.
+    pub faces: usize,
+}
+
+/// An answer, and the places of one face, which a call for it writes: all 0 where it was refused.
+#[repr(C)]
+#[derive(Clone, Copy, Debug, Default, PartialEq, Eq)]
+pub struct CWindow {
+    /// That of the plan, or 6; its counts are those of the whole job.
+    pub answer: CAnswer,
+    /// The number of the face's first vertex in the whole mesh.
+    pub first_vertex: usize,
+    /// The place of its first index.
+    pub first_index: usize,
+    /// How many vertices it has.
+    pub vertices: usize,
+    /// How many indices it has.
+    pub indices: usize,
+}
+
 /// A plane.
 #[repr(C)]
 #[derive(Clone, Copy, Debug, Default, PartialEq)]

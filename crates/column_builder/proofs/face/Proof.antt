@@ -9,8 +9,9 @@ use Rattle.buffers.specs.Laying.{four, layOne, laidIfFits}
 use Rattle.column.specs.declared.Name.{Name}
 use Rattle.column.specs.Column.{lists, columnFaces, meshOf}
 use Rattle.column.proofs.Numbering.{Stands, name-stands}
+use Rattle.column.proofs.Telling.{face-total}
 use Rattle.column_builder.specs.Calls.{faceAnswer}
-use Rattle.column_builder.proofs.Single.{face-total, face-ready, stands-laid}
+use Rattle.column_builder.proofs.Single.{face-ready, stands-laid}
 use Rattle.column_builder.proofs.face.Statement.{statement}
 use Rattle.column_builder.proofs.face.Tie as tie
 

@@ -8,6 +8,8 @@ use std::ops::Range;
 /// The calls of a job.
 pub trait Job {
     fn plan(&self) -> CAnswer;
+    fn faces(&self) -> CFaces;
+    fn window(&self, number: usize) -> CWindow;
     fn build(&self, to: Lent) -> CAnswer;
     fn face(&self, number: usize, to: Lent) -> CAnswer;
 }
@@ -57,6 +59,25 @@ impl Job for Plane {
         hosirekar_plane_plan(self.job, &self.corners, numbers, marks)
     }
 
+    fn faces(&self) -> CFaces {
+        hosirekar_plane_faces(
+            self.job,
+            &self.corners,
+            &self.table.numbers,
+            &self.table.marks,
+        )
+    }
+
+    fn window(&self, number: usize) -> CWindow {
+        hosirekar_plane_window(
+            self.job,
+            &self.corners,
+            &self.table.numbers,
+            &self.table.marks,
+            number,
+        )
+    }
+
     fn build(&self, to: Lent) -> CAnswer {
         hosirekar_plane_build(
             self.job,
@@ -89,6 +110,27 @@ impl Job for Column {
     fn plan(&self) -> CAnswer {
         let Table { numbers, marks } = &self.table;
         hosirekar_column_plan(self.job, &self.pairs, &self.corners, numbers, marks)
+    }
+
+    fn faces(&self) -> CFaces {
+        hosirekar_column_faces(
+            self.job,
+            &self.pairs,
+            &self.corners,
+            &self.table.numbers,
+            &self.table.marks,
+        )
+    }
+
+    fn window(&self, number: usize) -> CWindow {
+        hosirekar_column_window(
+            self.job,
+            &self.pairs,
+            &self.corners,
+            &self.table.numbers,
+            &self.table.marks,
+            number,
+        )
     }
 
     fn build(&self, to: Lent) -> CAnswer {
@@ -135,6 +177,33 @@ impl Job for HeightMap {
         )
     }
 
+    fn faces(&self) -> CFaces {
+        hosirekar_heightmap_faces(
+            self.job,
+            &self.cells,
+            &self.neighbours,
+            &self.fringe,
+            &self.customs,
+            &self.corners,
+            &self.table.numbers,
+            &self.table.marks,
+        )
+    }
+
+    fn window(&self, number: usize) -> CWindow {
+        hosirekar_heightmap_window(
+            self.job,
+            &self.cells,
+            &self.neighbours,
+            &self.fringe,
+            &self.customs,
+            &self.corners,
+            &self.table.numbers,
+            &self.table.marks,
+            number,
+        )
+    }
+
     fn build(&self, to: Lent) -> CAnswer {
         hosirekar_heightmap_build(
             self.job,
@@ -174,6 +243,14 @@ impl Job for HeightMap {
 impl Job for CheapColumn {
     fn plan(&self) -> CAnswer {
         hosirekar_cheap_column_plan(self.job, &self.corners)
+    }
+
+    fn faces(&self) -> CFaces {
+        hosirekar_cheap_column_faces(self.job, &self.corners)
+    }
+
+    fn window(&self, number: usize) -> CWindow {
+        hosirekar_cheap_column_window(self.job, &self.corners, number)
     }
 
     fn build(&self, to: Lent) -> CAnswer {
@@ -308,10 +385,22 @@ pub fn hold_faces(job: &impl Job, faces: usize, whole: &Mesh, what: impl Display
         let past = written(&made.uvs, &fresh.uvs).div_ceil(2).max(vertex);
         let end = written(&made.indices, &fresh.indices).max(index);
         hold_face(job, face, whole, [vertex..past, index..end], &what);
+        let told = places(&job.window(face));
+        assert_eq!(told, [vertex..past, index..end], "{what}: window {face}");
         (vertex, index) = (past, end);
     }
     let all = (exact[0] / 3, exact[3]);
     assert_eq!((vertex, index), all, "{what}: the faces end to end");
+    assert_eq!(job.faces().faces, faces, "{what}: how many faces");
+}
+
+/// The vertices and the indices of a window.
+pub fn places(window: &CWindow) -> [Range<usize>; 2] {
+    let (vertex, index) = (window.first_vertex, window.first_index);
+    [
+        vertex..vertex + window.vertices,
+        index..index + window.indices,
+    ]
 }
 
 /// Holds a face, called alone, to its places: its vertices and its indices.
@@ -344,7 +433,7 @@ fn written<T: PartialEq>(made: &[T], fresh: &[T]) -> usize {
 }
 
 /// Holds a mesh to have no number where it stands already, or writing it would not show.
-fn hold_unlike(whole: &Mesh, fresh: &Mesh, what: &impl Display) {
+pub fn hold_unlike(whole: &Mesh, fresh: &Mesh, what: &impl Display) {
     let floats = [
         (&whole.vertices, &fresh.vertices),
         (&whole.normals, &fresh.normals),

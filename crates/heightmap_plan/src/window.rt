@@ -1,0 +1,90 @@
+// How many faces a map has, and which places one of them has. No buffer is lent.
+ghost use mathlib.Core.Path.{_≡_};
+ghost use Rattle.heightmap.specs.HeightMap.{lent, lentForOptions};
+ghost use Rattle.heightmap.specs.Counts.{sizeBy};
+ghost use Rattle.heightmap.specs.Calls.{facesTold, windowTold};
+use face::triangle::Counts;
+use heightmap::HeightMap;
+use heightmap::Name;
+use mesh::windows::Faces;
+use mesh::windows::Window;
+
+// How many faces the job has, or why it is refused.
+pub fn faces(
+    job: HeightMap,
+    cells: &[f32],
+    neighbours: &[u32],
+    fringe: &[f32],
+    customs: &[u8],
+    corners: &[f32],
+    numbers: &[f32],
+    marks: &[u8],
+) -> Faces
+    ensures { λ r. ⌜ r ≡ facesTold job (lent cells neighbours fringe customs corners numbers marks) ⌝ }
+{
+    let planned = crate::plan(
+        job,
+        cells,
+        neighbours,
+        fringe,
+        customs,
+        corners,
+        numbers,
+        marks,
+    );
+    let faces = crate::names::face_count(job, cells, neighbours, fringe);
+    mesh::windows::faces_if_done(planned, faces)
+}
+
+fn size_of(job: HeightMap, name: Name, customs: &[u8], numbers: &[f32], marks: &[u8]) -> Counts
+    ensures { λ r. ⌜ r ≡ sizeBy job (lentForOptions customs numbers marks) name ⌝ }
+{
+    let o = heightmap::options::option_of(job, name, customs, numbers, marks);
+    let inset = o.inset;
+    match name {
+        Name::Cap(_) => face::triangle::hexagon_counts(inset),
+        Name::Side(_, _) => face::triangle::quad_counts(inset),
+    }
+}
+
+// The places of a face, by its number: one walk for the plan, and one that finds the face.
+pub fn window(
+    job: HeightMap,
+    cells: &[f32],
+    neighbours: &[u32],
+    fringe: &[f32],
+    customs: &[u8],
+    corners: &[f32],
+    numbers: &[f32],
+    marks: &[u8],
+    number: usize,
+) -> Window
+    ensures { λ r. ⌜ r ≡ windowTold job (lent cells neighbours fringe customs corners numbers marks) number ⌝ }
+{
+    let planned = crate::plan(
+        job,
+        cells,
+        neighbours,
+        fringe,
+        customs,
+        corners,
+        numbers,
+        marks,
+    );
+    let s = crate::names::survey_faces(
+        job,
+        number,
+        cells,
+        neighbours,
+        fringe,
+        customs,
+        numbers,
+        marks,
+    );
+    let all = s.all;
+    let found = s.found;
+    let name = found.name;
+    let start = found.start;
+    let answer = answer::answer::name(planned, number, all.faces);
+    mesh::windows::window_if_done(answer, start, size_of(job, name, customs, numbers, marks))
+}
