@@ -1,9 +1,10 @@
-// Replays recorded cheap columns, planes, columns and points through the crates' public calls, and tells of each kind how
+// Replays recorded cheap columns, planes, columns, merges and points through the crates' public calls, and tells of each kind how
 // many differ from the record and which is the first.
 mod calls;
 mod faces;
 mod held;
 mod job;
+mod merges;
 mod runs;
 mod words;
 
@@ -11,11 +12,13 @@ mod words;
 const END: u32 = 0xe4d;
 
 // The kinds, in the record's order: cheap columns, planes and columns are 0 to 2.
-const KINDS: u32 = 5;
+const KINDS: u32 = 6;
 
-const POINTS: u32 = 3;
+const MERGES: u32 = 3;
 
-const WRAPS: u32 = 4;
+const POINTS: u32 = 4;
+
+const WRAPS: u32 = 5;
 
 struct Tally {
     differ: u32,
@@ -24,6 +27,9 @@ struct Tally {
 
 // Replays one case, and answers whether it is as the record has it.
 fn is_right(kind: u32) -> bool {
+    if kind == MERGES {
+        return merges::is_merge();
+    }
     if kind == POINTS {
         return faces::is_point();
     }

@@ -1,4 +1,4 @@
-// Replays recorded height maps, merges and stored meshes through the crates' public calls, and tells of each kind how many
+// Replays recorded height maps and stored meshes through the crates' public calls, and tells of each kind how many
 // differ from the record and which is the first.
 mod calls;
 mod held;
@@ -11,13 +11,11 @@ mod words;
 const END: u32 = 0xe4d;
 
 // The kinds, in the record's order: first maps whose cells are listed, then those of many cells.
-const KINDS: u32 = 4;
+const KINDS: u32 = 3;
 
 const LIMITS: u32 = 1;
 
-const MERGES: u32 = 2;
-
-const STORED: u32 = 3;
+const STORED: u32 = 2;
 
 struct Tally {
     differ: u32,
@@ -28,9 +26,6 @@ struct Tally {
 fn is_right(kind: u32) -> bool {
     if kind == LIMITS {
         return runs::is_limit();
-    }
-    if kind == MERGES {
-        return stored::is_merge();
     }
     if kind == STORED {
         return stored::is_stored();

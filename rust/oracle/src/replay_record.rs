@@ -72,13 +72,13 @@ pub fn write(out: &mut impl Write, program: Program, sets: &Sets) -> io::Result<
             kind(out, "cheap", &cheap(&sets.meshes))?;
             kind(out, "planes", &planes(&sets.planes))?;
             kind(out, "columns", &columns(&sets.columns))?;
+            kind(out, "merges", &value_words::merges(&sets.meshes))?;
             kind(out, "points", &value_words::points(&sets.faces))?;
             kind(out, "wraps", &value_words::wraps(&sets.faces))?;
         }
         Program::ReplayMaps => {
             kind(out, "maps", &maps(&sets.maps))?;
             kind(out, "limits", &map_faults::limits())?;
-            kind(out, "merges", &value_words::merges(&sets.meshes))?;
             kind(out, "stored", &value_words::stored(&sets.meshes))?;
         }
     }

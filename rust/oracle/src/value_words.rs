@@ -1,4 +1,4 @@
-//! Stored meshes and merges as `replay_maps` reads them, points as `replay` does,
+//! Stored meshes as `replay_maps` reads them, merges and points as `replay` does,
 //! each with hexx's answer as a digest, and those that are refused.
 
 use crate::answers;

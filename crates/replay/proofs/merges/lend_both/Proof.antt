@@ -1,9 +1,9 @@
--- `replay_maps::stored::lend_both` is safe: what is lent lies within its list. Assumes nothing.
+-- `replay::merges::lend_both` is safe: what is lent lies within its list. Assumes nothing.
 use native.Mathlib.Omega.{arith}
 use lib.ListN.{length-take}
 use borrow.Author.Needs.{needs}
-use Rattle.replay_maps.proofs.stored.lend_both.Statement.{statement}
-use Rattle.replay_maps.proofs.stored.lend_both.Tie as tie
+use Rattle.replay.proofs.merges.lend_both.Statement.{statement}
+use Rattle.replay.proofs.merges.lend_both.Tie as tie
 
 pub lend-both-spec : {M : Type 1} → statement M
 lend-both-spec =
