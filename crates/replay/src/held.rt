@@ -5,7 +5,6 @@ use crate::words::INDICES;
 use crate::words::KEPT;
 use crate::words::KEPT_INDEX;
 use answer::answer::Answer;
-use face::vec::Vec3;
 ghost use Prim.Native.Nat.{_≤_};
 
 pub(crate) struct Held {
@@ -73,10 +72,6 @@ pub(crate) fn with_word(d: Digest, word: u32) -> Digest {
 
 pub(crate) fn with_float(d: Digest, x: f32) -> Digest {
     with_word(d, patterns::pattern(x))
-}
-
-pub(crate) fn with_point(d: Digest, p: Vec3) -> Digest {
-    with_float(with_float(with_float(d, p.x), p.y), p.z)
 }
 
 fn with_floats(d: Digest, list: [f32; FLOATS], n: usize) -> Digest {

@@ -9,11 +9,8 @@ pub(crate) const FLOATS: usize = 800;
 
 pub(crate) const INDICES: usize = 1000;
 
-// The room of the marks of 65 options, one more than a job may have, and of the options of a map's faces.
-pub(crate) const MARKS: usize = 264;
-
-// The room of a map's neighbours.
-pub(crate) const LINKS: usize = 120;
+// The room of the marks of 65 options, one more than a job may have.
+pub(crate) const MARKS: usize = 260;
 
 // What stands in a list behind what was read, and in every place of one that a job fills: no mesh of the record has it.
 pub(crate) const KEPT: f32 = -123456.75;
@@ -85,15 +82,6 @@ pub(crate) fn bytes(n: usize) -> [u8; MARKS] {
     let mut out = [0u8; MARKS];
     for i in 0usize..m {
         out[i] = (word() % 256) as u8;
-    }
-    out
-}
-
-pub(crate) fn links(n: usize) -> [u32; LINKS] {
-    let m = at_most(n, LINKS);
-    let mut out = [0u32; LINKS];
-    for i in 0usize..m {
-        out[i] = word();
     }
     out
 }

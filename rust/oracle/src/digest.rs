@@ -1,5 +1,5 @@
 //! The four lists of a mesh as they are lent to a call, and the digest of them
-//! that the program `replay` holds its own to.
+//! that the programs `replay` and `replay_maps` hold their own to.
 
 use crate::MeshInfo;
 use crate::line::bits;

@@ -1,4 +1,4 @@
-//! The calls that the program `replay` makes of a job, what each answers, and
+//! The calls that `replay` and `replay_maps` make of a job, what each answers, and
 //! what is in the lists in the end. A mesh is hexx's; the number of a refusal
 //! is that of the scope's table.
 
@@ -10,7 +10,7 @@ use crate::mesh_cases::Column as CheapColumn;
 use crate::{FaceOptions, MeshInfo};
 use glam::Vec2;
 
-/// What the program has room for: numbers and indices of a list, runs of a
+/// What each of them has room for: numbers and indices of a list, runs of a
 /// case, calls of a run.
 const FLOATS: usize = 800;
 /// See [`FLOATS`].

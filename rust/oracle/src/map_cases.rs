@@ -19,7 +19,7 @@ pub const DRAWN: usize = 24;
 /// See [`DRAWN`].
 pub const TURNED: usize = 20;
 
-/// What a mesh of the record may have: the program `replay` has fixed lists.
+/// What a mesh of the record may have: the program `replay_maps` has fixed lists.
 const VERTICES: usize = 264;
 /// See [`VERTICES`].
 const INDICES: usize = 990;

@@ -3,9 +3,10 @@
 use crate::builders::Choice;
 use crate::cases::three_ways;
 use crate::job_faults::{refused, rooms, turned_pattern};
-use crate::job_runs::{Case, Fault};
+use crate::job_runs::{Call, Case, Fault};
 use crate::job_words::Lines;
 use crate::map_grounds::Layout;
+use crate::map_limits::stepped;
 use crate::map_words::{MapJob, OFF};
 use crate::maps::{Map, NOBODY, NUMBERS, OWN, Turn};
 use glam::{Quat, vec2, vec3};
@@ -250,4 +251,60 @@ fn unread() -> Vec<Lines> {
         case.lines(case.runs(at))
     };
     fill.into_iter().enumerate().map(lines).collect()
+}
+
+/// The most cells of that rule that can be numbered, with caps and walls inset.
+const MOST: usize = 1093;
+
+/// Maps of many cells, which the program makes by a rule of its own: as many as
+/// can be numbered, with one cell more, and the refusals that come first.
+#[must_use]
+pub fn limits() -> Vec<Lines> {
+    let mut all: Vec<Lines> = [false, true]
+        .map(|kept| planned(&stepped(MOST, kept)))
+        .to_vec();
+    let beyond = stepped(MOST + 1, true);
+    let job = MapJob::from(&beyond);
+    let mut unnamed = job.clone();
+    (unnamed.caps, unnamed.offset) = (1, Some([f32::NAN; 3]));
+    let mut far = job.clone();
+    far.offset = Some([0.0, f32::INFINITY, 0.0]);
+    all.extend([
+        planned(&Map {
+            caps: Choice::Absent,
+            ..beyond.clone()
+        }),
+        planned(&Map {
+            sides: Choice::Absent,
+            ..beyond
+        }),
+        by_itself(&job, Fault::Limit),
+        by_itself(&MapJob::from(&stepped(MOST + 1, false)), Fault::Limit),
+        by_itself(&far, Fault::Range),
+        by_itself(&unnamed, Fault::Shape),
+    ]);
+    all.into_iter().map(by_count).collect()
+}
+
+/// A map that is done and for which there is no room here.
+fn planned(map: &Map) -> Lines {
+    let case = Case::map(map);
+    let calls = [
+        Call::Plan,
+        Call::Whole,
+        Call::Face(1),
+        Call::Face(case.faces.len()),
+    ];
+    case.lines(vec![case.run([64; 4], &calls), case.run([0; 4], &calls)])
+}
+
+/// The lines of a map with the count of its cells in place of the two lists
+/// that the rule makes.
+fn by_count(mut lines: Lines) -> Lines {
+    let count = lines[0][0] / NUMBERS as u32;
+    lines[0][..2].fill(0);
+    lines[1].clear();
+    lines[2].clear();
+    lines.insert(0, vec![count]);
+    lines
 }

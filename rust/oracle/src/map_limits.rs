@@ -159,6 +159,21 @@ fn capped(walls: usize) -> Map {
     }
 }
 
+/// So many cells by the rule that `replay_maps` has too: the height of cell 0 is
+/// 0, all other numbers are 1, and across every side is cell 0. So each cell but
+/// that one has six walls; they and the caps are inset.
+#[must_use]
+pub fn stepped(count: usize, kept: bool) -> Map {
+    let mut cells = vec![1.0; 27 * count];
+    cells[0] = 0.0;
+    let map = Map {
+        cells,
+        neighbours: vec![0; 6 * count],
+        ..empty(corners())
+    };
+    with_inset(map, kept)
+}
+
 /// With caps and sides that are there of an inset option.
 fn with_inset(map: Map, kept: bool) -> Map {
     let inset = inset(MODES[usize::from(kept)], 0.25, kept);

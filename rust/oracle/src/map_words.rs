@@ -1,4 +1,4 @@
-//! Height maps as the program `replay` reads them, and what the scope's table
+//! Height maps as the program `replay_maps` reads them, and what the scope's table
 //! says of such a map before anything is built.
 
 use crate::job_runs::Fault;

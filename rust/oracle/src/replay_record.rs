@@ -1,6 +1,7 @@
-//! Writes the record of the program `replay`: of each kind its name, how many
-//! cases it has, and those. A case is lines of words in hexadecimal digits
-//! without leading zeros, and a word that ends it. The last line is `end`.
+//! Writes the records of the programs `replay` and `replay_maps`: of each kind
+//! its name, how many cases it has, and those. A case is lines of words in
+//! hexadecimal digits without leading zeros, and a word that ends it. The last
+//! line is `end`.
 
 use crate::builders::{Column, Plane};
 use crate::job_runs::Case;
@@ -12,6 +13,25 @@ use std::io::{self, Write};
 
 /// What ends a case.
 const END: u32 = 0xe4d;
+
+/// A program that reads a record.
+#[derive(Debug, Clone, Copy, PartialEq, Eq)]
+pub enum Program {
+    Replay,
+    ReplayMaps,
+}
+
+impl Program {
+    /// The program of this name.
+    #[must_use]
+    pub fn named(name: &str) -> Option<Self> {
+        match name {
+            "replay" => Some(Self::Replay),
+            "replay_maps" => Some(Self::ReplayMaps),
+            _ => None,
+        }
+    }
+}
 
 /// Cases of every kind.
 pub struct Sets {
@@ -45,16 +65,23 @@ pub fn drawn(random: &mut Random, count: usize) -> Sets {
     }
 }
 
-/// Writes a record of `sets`, and of the cases that are refused.
-pub fn write(out: &mut impl Write, sets: &Sets) -> io::Result<()> {
-    kind(out, "cheap", &cheap(&sets.meshes))?;
-    kind(out, "planes", &planes(&sets.planes))?;
-    kind(out, "columns", &columns(&sets.columns))?;
-    kind(out, "maps", &maps(&sets.maps))?;
-    kind(out, "merges", &value_words::merges(&sets.meshes))?;
-    kind(out, "stored", &value_words::stored(&sets.meshes))?;
-    kind(out, "points", &value_words::points(&sets.faces))?;
-    kind(out, "wraps", &value_words::wraps(&sets.faces))?;
+/// Writes a program's record of `sets`, and of the cases that are refused.
+pub fn write(out: &mut impl Write, program: Program, sets: &Sets) -> io::Result<()> {
+    match program {
+        Program::Replay => {
+            kind(out, "cheap", &cheap(&sets.meshes))?;
+            kind(out, "planes", &planes(&sets.planes))?;
+            kind(out, "columns", &columns(&sets.columns))?;
+            kind(out, "merges", &value_words::merges(&sets.meshes))?;
+            kind(out, "points", &value_words::points(&sets.faces))?;
+            kind(out, "wraps", &value_words::wraps(&sets.faces))?;
+        }
+        Program::ReplayMaps => {
+            kind(out, "maps", &maps(&sets.maps))?;
+            kind(out, "limits", &map_faults::limits())?;
+            kind(out, "stored", &value_words::stored(&sets.meshes))?;
+        }
+    }
     writeln!(out, "end")
 }
 
@@ -65,11 +92,6 @@ pub fn maps(cases: &builder_cases::Cases<Map>) -> Vec<Lines> {
     let mut all = done(all.map(Case::map));
     all.extend(map_faults::maps());
     all
-}
-
-/// Writes the part of the height maps alone.
-pub fn write_maps(out: &mut impl Write, maps: &[Lines]) -> io::Result<()> {
-    kind(out, "maps", maps)
 }
 
 fn kind(out: &mut impl Write, name: &str, cases: &[Lines]) -> io::Result<()> {

@@ -1,4 +1,4 @@
-//! Stored meshes, merges and single points as the program `replay` reads them,
+//! Stored meshes as `replay_maps` reads them, merges and points as `replay` does,
 //! each with hexx's answer as a digest, and those that are refused.
 
 use crate::answers;

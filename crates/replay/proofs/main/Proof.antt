@@ -8,7 +8,7 @@ abbrev Inv-loop : tie.InvT-loop
 Inv-loop kind₀ reads₀ t3 kind reads = Unit {0}
 
 abbrev μ-loop : tie.MeasureT-loop
-μ-loop kind₀ reads₀ t3 kind reads = 8 - kind
+μ-loop kind₀ reads₀ t3 kind reads = 6 - kind
 
 pub main-spec : {M : Type 1} → statement M
 main-spec =

@@ -2,7 +2,7 @@
 //! turn or a bottom. The planes and columns are those that `record-planes` and
 //! `record-columns` write for the same count and seed. That the proved code
 //! equals the written steps bit by bit is held on other jobs, drawn alike: by
-//! `compare`, and by `replay` on what `record-jobs` writes.
+//! `compare`, and by `replay` and `replay_maps` on what `record-jobs` writes.
 
 use glam::Vec3;
 use oracle::MeshInfo;
