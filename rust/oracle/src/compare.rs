@@ -5,7 +5,7 @@ use crate::MeshInfo;
 use crate::buffers::{Buffers, Counts};
 use crate::ours::{Call, Job};
 use crate::random::Random;
-use crate::safe;
+use crate::safe::{self, Safe};
 use hosirekar::Job as _;
 use hosirekar_sys::CAnswer;
 
@@ -191,7 +191,7 @@ fn order(count: usize, random: &mut Random) -> Vec<usize> {
 }
 
 /// The safe crate's own build has exactly the mesh's numbers.
-pub fn safe(job: &impl Job, mesh: &MeshInfo) -> Result<(), String> {
+pub fn safe(job: &impl Safe, mesh: &MeshInfo) -> Result<(), String> {
     let counts = Counts::of(mesh);
     let mut wanted = Buffers::marked(counts.lengths());
     wanted.lay(mesh, Counts::default(), counts);
@@ -208,7 +208,7 @@ pub fn safe(job: &impl Job, mesh: &MeshInfo) -> Result<(), String> {
 }
 
 /// All that is asked of one job.
-pub fn job(job: &impl Job, random: &mut Random) -> Result<(), String> {
+pub fn job(job: &(impl Job + Safe), random: &mut Random) -> Result<(), String> {
     let trial = Trial::new(job, random);
     let all = trial
         .plan()

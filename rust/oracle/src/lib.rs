@@ -20,6 +20,8 @@ pub mod job_words;
 #[cfg(feature = "archive")]
 pub mod limits;
 pub mod line;
+#[cfg(feature = "archive")]
+pub mod map_calls;
 pub mod map_cases;
 pub mod map_draws;
 pub mod map_faults;

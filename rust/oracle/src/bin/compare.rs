@@ -9,6 +9,7 @@ use oracle::limits::{self, Limits};
 use oracle::mesh_cases::{Cases, Merge};
 use oracle::ours::Job;
 use oracle::random::Random;
+use oracle::safe::Safe;
 use oracle::stored::{Change, centroids, change, merge};
 use oracle::{builder_cases, mesh_cases};
 use std::process::ExitCode;
@@ -105,7 +106,7 @@ fn drawn(
 
 /// The jobs and the stored meshes of the records.
 fn recorded() -> u64 {
-    fn jobs(name: &str, jobs: &[impl Job], random: &mut Random) -> u64 {
+    fn jobs(name: &str, jobs: &[impl Job + Safe], random: &mut Random) -> u64 {
         let mut tally = Tally::default();
         jobs.iter().for_each(|one| tally.add(job(one, random)));
         told(name, &tally)
