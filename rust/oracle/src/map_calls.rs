@@ -2,10 +2,10 @@
 
 use crate::MeshInfo;
 use crate::buffers::Counts;
-use crate::map_runs::has_both_zeros;
-use crate::map_steps::{WRITTEN, faces, range, whole};
+use crate::map_steps::{OVER_HEXX, foot, options, whole};
+use crate::map_zeros;
 use crate::maps::Map;
-use crate::ours::{Call, Job, Kind, flat, placement, table, vec2};
+use crate::ours::{Call, Job, Kind, counts, flat, placement, table, vec2};
 use glam::Vec2;
 use hosirekar_sys::{self as sys, CAnswer, CHeightMap, COrigin, CRange};
 
@@ -121,23 +121,32 @@ impl Map {
     }
 }
 
+impl Map {
+    /// The counts of the faces of a cell.
+    pub fn counts_of(&self, cell: usize) -> impl Iterator<Item = Counts> {
+        let cap = options(&OVER_HEXX, self, self.caps, 7 * cell);
+        let side = move |side: usize| {
+            foot(&OVER_HEXX, self, cell, side)?;
+            options(&OVER_HEXX, self, self.sides, 7 * cell + 1 + side)
+        };
+        let cap = cap.map(|options| counts(6, &options));
+        let sides = (0..6).filter_map(side);
+        cap.into_iter()
+            .chain(sides.map(|options| counts(4, &options)))
+    }
+}
+
 impl Job for Map {
-    /// Where heights hold both zeros, hexx may begin or end its range with
-    /// another one than the written steps, which then decide.
     fn wanted(&self) -> MeshInfo {
-        match self.turn.is_some() || (self.range.is_none() && has_both_zeros(self)) {
-            true => MeshInfo::from(&whole(&WRITTEN, self)),
-            false => self.hexx(),
+        match self.turn {
+            None => map_zeros::wanted(self).0,
+            Some(_) => MeshInfo::from(&whole(&OVER_HEXX, self)),
         }
     }
 
     fn face_counts(&self) -> Vec<Counts> {
-        let faces = faces(&WRITTEN, self, range(&WRITTEN, self));
-        let counts = faces.iter().map(|face| Counts {
-            vertices: face.positions.len(),
-            indices: face.indices.len(),
-        });
-        counts.collect()
+        let cells = 0..self.count();
+        cells.flat_map(|cell| self.counts_of(cell)).collect()
     }
 
     fn call(&self) -> Call {

@@ -2,6 +2,7 @@
 
 use crate::buffers::{Counts, Lent};
 use crate::builders::{Choice, Column, Plane, Standing};
+use crate::map_call_faults;
 use crate::map_calls::{self, Lists};
 use crate::mesh_cases::Column as CheapColumn;
 use crate::numbers::LIMIT;
@@ -102,6 +103,11 @@ impl Call {
     #[must_use]
     pub fn faulty(&self, random: &mut Random) -> (u32, Self) {
         let mut call = self.clone();
+        if let Kind::Map(mut job) = self.kind {
+            let number = map_call_faults::put(&mut call, &mut job, random);
+            call.kind = Kind::Map(job);
+            return (number, call);
+        }
         let number = match random.below(6) {
             0 => {
                 call.corners.push(0.0);
