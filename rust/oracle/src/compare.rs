@@ -18,6 +18,13 @@ pub struct Tally {
 }
 
 impl Tally {
+    /// Of nothing.
+    pub const NONE: Self = Self {
+        tried: 0,
+        differ: 0,
+        first: None,
+    };
+
     /// Counts one in.
     pub fn add(&mut self, found: Result<(), String>) {
         self.tried += 1;

@@ -14,6 +14,7 @@ pub mod compare;
 #[cfg(feature = "archive")]
 pub mod differences;
 pub mod digest;
+pub mod distance;
 pub mod job_faults;
 pub mod job_runs;
 pub mod job_words;

@@ -1,9 +1,12 @@
 //! Drawn height maps, small and great, held to hexx's: the plan, the build,
 //! short buffers, and single faces in any order with refused calls between.
 
+use crate::MeshInfo;
 use crate::compare::{Tally, Trial, order};
+use crate::distance::{Greatest, MODERATE};
 use crate::limits::{VERTICES, alone, refused_everywhere};
 use crate::map_draws::drawn_map_of;
+use crate::map_steps::{OVER_HEXX, magnitude, range};
 use crate::map_zeros::{Zeros, other_ends, wanted};
 use crate::maps::{Map, Turn};
 use crate::numbers::number;
@@ -18,7 +21,7 @@ const SMALL: u32 = 40;
 const SOME: usize = 32;
 
 /// What drawn maps came to.
-#[derive(Debug, Default)]
+#[derive(Debug)]
 pub struct Maps {
     pub tally: Tally,
     pub cells: usize,
@@ -32,16 +35,46 @@ pub struct Maps {
     pub other_zero: usize,
     /// Refused for their vertices; hexx is not asked.
     pub too_many: usize,
+    /// How far maps turned by a quaternion are from hexx's, and great ones.
+    pub distances: [Greatest; 2],
 }
 
 impl Maps {
+    const fn new() -> Self {
+        Self {
+            tally: Tally::NONE,
+            cells: 0,
+            vertices: 0,
+            both_zeros: 0,
+            telling: 0,
+            other_zero: 0,
+            too_many: 0,
+            distances: [Greatest::NONE, Greatest::NONE],
+        }
+    }
+
     /// Counts a map in.
     fn add(&mut self, map: &Map, trial: &Trial, found: Result<(), String>) {
         self.cells += map.count();
         self.vertices += trial.mesh.vertices.len();
         self.note(map);
+        self.measure(map, &trial.mesh);
         let found = found.map_err(|what| format!("{what}\n{map:?}"));
         self.tally.add(found);
+    }
+
+    /// Counts how far a mesh with a turn is from hexx's. The range is given,
+    /// since hexx may have another sign of a zero end.
+    fn measure(&mut self, map: &Map, mesh: &MeshInfo) {
+        if let Some(Turn::By(_)) = map.turn {
+            let range = Some(range(&OVER_HEXX, map));
+            let map = Map {
+                range,
+                ..map.clone()
+            };
+            let most = magnitude(&map);
+            self.distances[usize::from(most > MODERATE)].add(&map.hexx(), mesh, most);
+        }
     }
 
     /// Counts what zeros show.
@@ -58,24 +91,34 @@ impl Maps {
 
 impl std::fmt::Display for Maps {
     fn fmt(&self, f: &mut std::fmt::Formatter<'_>) -> std::fmt::Result {
-        write!(
-            f,
-            "  {} cells, {} vertices; refused for their vertices {}; heights of both zeros {}, \
-             where the sign of an end shows {}, and is another in hexx {}",
-            self.cells,
-            self.vertices,
-            self.too_many,
-            self.both_zeros,
-            self.telling,
-            self.other_zero
-        )
+        write!(f, "  {} cells, {} vertices", self.cells, self.vertices)?;
+        if self.too_many > 0 {
+            let many = self.too_many;
+            write!(f, "; refused for their vertices {many}")?;
+        }
+        if self.both_zeros > 0 {
+            let [both, telling, other] = [self.both_zeros, self.telling, self.other_zero];
+            write!(
+                f,
+                "\n  heights of both zeros {both}, where the sign of an end shows {telling}, \
+                 and is another in hexx {other}"
+            )?;
+        }
+        let [moderate, great] = &self.distances;
+        match moderate.jobs + great.jobs {
+            0 => Ok(()),
+            _ => write!(
+                f,
+                "\n  from hexx, up to {MODERATE}: {moderate}\n  from hexx, beyond: {great}"
+            ),
+        }
     }
 }
 
 /// Some maps, as they are given.
 #[must_use]
 pub fn given(maps: &[Map], random: &mut Random) -> Maps {
-    let mut all = Maps::default();
+    let mut all = Maps::new();
     for map in maps {
         one(&mut all, map, random);
     }
@@ -91,7 +134,7 @@ fn one(all: &mut Maps, map: &Map, random: &mut Random) {
 /// Drawn maps of at most 40 cells.
 #[must_use]
 pub fn small(count: u64, turned: bool, random: &mut Random) -> Maps {
-    let mut all = Maps::default();
+    let mut all = Maps::new();
     for _ in 0..count {
         let cells = match random.once_in(2) {
             true => random.below(8),
@@ -114,7 +157,7 @@ fn any_nine(random: &mut Random) -> Turn {
 /// Drawn maps of 1,000 to 5,000 cells; too many vertices are refused.
 #[must_use]
 pub fn great(count: u64, long: bool, random: &mut Random) -> Maps {
-    let mut all = Maps::default();
+    let mut all = Maps::new();
     while all.tally.tried < count + all.too_many as u64 {
         let cells = 1000 + random.below(4001) as usize;
         let map = drawn_map_of(random, cells, false);
