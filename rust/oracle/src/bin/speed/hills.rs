@@ -13,7 +13,6 @@ use oracle::{
 };
 
 /// What is done to the faces of a map.
-#[derive(Clone)]
 pub struct Way {
     pub name: &'static str,
     options: Vec<FaceOptions>,
@@ -25,54 +24,43 @@ pub struct Way {
     pub radius: i32,
 }
 
-/// All ways; the last four make more vertices of the same cells, or may.
+/// A texture rectangle, and both kinds of insets.
+fn three() -> [FaceOptions; 3] {
+    let uv = UVOptions::new();
+    let inset = |mode| InsetOptions {
+        keep_inner_face: true,
+        scale: 0.2,
+        mode,
+    };
+    let option = |uv, insetting| FaceOptions { uv, insetting };
+    [
+        option(uv.with_rect(vec2(0.25, 0.1), vec2(0.5, 0.7)), None),
+        option(uv, Some(inset(InsetScaleMode::Centroid))),
+        option(uv, Some(inset(InsetScaleMode::SmallestEdge))),
+    ]
+}
+
+/// All ways; the last three make more vertices of the same cells.
 pub fn ways() -> [Way; 6] {
-    let inset = |mode| FaceOptions {
-        uv: UVOptions::new(),
-        insetting: Some(InsetOptions {
-            keep_inner_face: true,
-            scale: 0.2,
-            mode,
-        }),
-    };
-    let rectangle = FaceOptions {
-        uv: UVOptions::new().with_rect(vec2(0.25, 0.1), vec2(0.5, 0.7)),
-        insetting: None,
-    };
-    let centroid = inset(InsetScaleMode::Centroid);
-    let edge = inset(InsetScaleMode::SmallestEdge);
-    let plain = Way {
-        name: "default",
-        options: Vec::new(),
-        all: Choice::Default,
-        customs: false,
-        turned: false,
-        radius: 34,
-    };
-    let with = |name, option, radius| Way {
+    let [rectangle, centroid, edge] = three();
+    let way = |name, options: &[FaceOptions], radius| Way {
         name,
-        options: vec![option],
-        all: Choice::Entry(0),
+        options: options.to_vec(),
+        all: match options.len() {
+            1 => Choice::Entry(0),
+            _ => Choice::Default,
+        },
+        customs: options.len() == 3,
+        turned: name == "turn",
         radius,
-        ..plain.clone()
     };
     [
-        plain.clone(),
-        with("rectangle", rectangle, 34),
-        Way {
-            name: "turn",
-            turned: true,
-            ..plain.clone()
-        },
-        with("centroid", centroid, 24),
-        with("edge", edge, 24),
-        Way {
-            name: "customs",
-            options: vec![rectangle, centroid, edge],
-            customs: true,
-            radius: 24,
-            ..plain.clone()
-        },
+        way("default", &[], 34),
+        way("rectangle", &[rectangle], 34),
+        way("turn", &[], 34),
+        way("centroid", &[centroid], 24),
+        way("edge", &[edge], 24),
+        way("customs", &[rectangle, centroid, edge], 24),
     ]
 }
 
@@ -126,8 +114,8 @@ pub fn level(count: usize) -> Map {
 
 /// What hexx is asked for a map, made before the clock starts.
 pub struct Asked {
-    pub layout: HexLayout,
-    pub store: Vec<Cell>,
+    layout: HexLayout,
+    store: Vec<Cell>,
 }
 
 impl Asked {
@@ -136,6 +124,11 @@ impl Asked {
             layout: map.layout(),
             store: map.store(),
         }
+    }
+
+    /// hexx's builder of the same map.
+    pub fn builder(&self, map: &Map) -> Builder<'_> {
+        map.builder(&self.layout, &self.store)
     }
 }
 

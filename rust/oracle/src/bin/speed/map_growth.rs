@@ -2,7 +2,7 @@
 
 use crate::hills::{Asked, again, hills, level, ways};
 use crate::maps::Given;
-use crate::rows::{Rows, least};
+use crate::rows::{Headed, Rows, least};
 use oracle::buffers::Buffers;
 use oracle::maps::Map;
 use oracle::ours::Job;
@@ -18,41 +18,45 @@ const CELLS: [usize; 7] = [7, 19, 91, 331, 1261, 3571, 10_922];
 
 /// A table for each.
 pub fn tell(rows: &Rows) {
-    println!();
-    println!(
-        "| growth | cells | faces | hexx, µs | build, µs | ns a cell | first face, µs \
-         | last face, µs | ns a cell |"
-    );
-    println!("|---|---|---|---|---|---|---|---|---|");
+    let table = &mut Headed::by(&[
+        "growth",
+        "cells",
+        "faces",
+        "hexx, µs",
+        "build, µs",
+        "ns a cell",
+        "first face, µs",
+        "last face, µs",
+        "ns a cell",
+    ]);
     let random = &mut Random::new(4);
     let [plain, ..] = ways();
     for radius in RADII {
-        row(rows, "hills", &hills(&plain, radius, random));
+        row(rows, table, "hills", &hills(&plain, radius, random));
     }
     for cells in CELLS {
-        row(rows, "level", &level(cells));
+        row(rows, table, "level", &level(cells));
     }
 }
 
-fn row(rows: &Rows, ground: &str, map: &Map) {
+fn row(rows: &Rows, table: &mut Headed, ground: &str, map: &Map) {
     let cells = map.count();
     if !rows.has(&format!("growth, {ground}, {cells}")) {
         return;
     }
     let faces = map.face_counts().len();
     let [hexx, build, first, last] = times(map, faces - 1);
-    let each = 1000.0 / cells as f64;
-    println!(
-        "| {ground} | {cells} | {faces} | {hexx:.2} | {build:.2} | {:.1} | {first:.2} | {last:.2} | {:.1} |",
-        build * each,
-        last * each,
-    );
+    let [of_build, of_face] = [build, last].map(|time| 1000.0 * time / cells as f64);
+    table.row(&format!(
+        "| {ground} | {cells} | {faces} | {hexx:.2} | {build:.2} | {of_build:.1} \
+         | {first:.2} | {last:.2} | {of_face:.1} |"
+    ));
 }
 
 /// Microseconds of hexx's build, of ours, and of the first and the last face.
 fn times(map: &Map, end: usize) -> [f64; 4] {
     let asked = Asked::of(map);
-    let builder = map.builder(&asked.layout, &asked.store);
+    let builder = asked.builder(map);
     let given = &Given::of(map);
     let lengths = given.counts().lengths();
     let [mut whole, mut one, mut other] = [(); 3].map(|()| Buffers::marked(lengths));

@@ -2,7 +2,7 @@
 //! whole build of the same map.
 
 use crate::hills::{Asked, Builder, Way, again, hills, ways};
-use crate::rows::{Rows, Sides, copy, least};
+use crate::rows::{Headed, Rows, Sides, copy, least};
 use hosirekar_sys::{CAnswer, CHeightMap};
 use oracle::buffers::{Buffers, Counts, Lent};
 use oracle::map_calls;
@@ -83,25 +83,26 @@ pub fn whole(rows: &Rows) {
     }
 }
 
+/// Room for the greatest of some meshes.
+fn room(all: &[Counts]) -> Buffers {
+    let most = |of: fn(&Counts) -> usize| all.iter().map(of).max().unwrap_or(0);
+    let counts = Counts {
+        vertices: most(|counts| counts.vertices),
+        indices: most(|counts| counts.indices),
+    };
+    Buffers::marked(counts.lengths())
+}
+
 /// A set of maps with as many cells.
 fn set(rows: &Rows, way: &Way, maps: &[Map]) {
     let asked: Vec<Asked> = maps.iter().map(Asked::of).collect();
     let both = maps.iter().zip(&asked);
-    let builders: Vec<Builder> = both
-        .map(|(map, asked)| map.builder(&asked.layout, &asked.store))
-        .collect();
+    let builders: Vec<Builder> = both.map(|(map, asked)| asked.builder(map)).collect();
     let given: Vec<Given> = maps.iter().map(Given::of).collect();
     let counts: Vec<Counts> = given.iter().map(Given::counts).collect();
-    let most = |of: fn(&Counts) -> usize| counts.iter().map(of).max().unwrap_or(0);
-    let room = Counts {
-        vertices: most(|counts| counts.vertices),
-        indices: most(|counts| counts.indices),
-    };
-    let mut lent = Buffers::marked(room.lengths());
-    let from: Vec<Buffers> = counts
-        .iter()
-        .map(|counts| Buffers::marked(counts.lengths()))
-        .collect();
+    let mut lent = room(&counts);
+    let lists = |counts: &Counts| Buffers::marked(counts.lengths());
+    let from: Vec<Buffers> = counts.iter().map(lists).collect();
     let mut to = from.clone();
     let vertices: usize = counts.iter().map(|counts| counts.vertices).sum();
     let sides = Sides {
@@ -130,9 +131,13 @@ fn set(rows: &Rows, way: &Way, maps: &[Map]) {
 
 /// The first, the middle and the last face of the greatest maps.
 pub fn faces(rows: &Rows) {
-    println!();
-    println!("| one face | options | hexx's whole build, µs | face, µs | ratio |");
-    println!("|---|---|---|---|---|");
+    let mut table = Headed::by(&[
+        "one face",
+        "options",
+        "hexx's whole build, µs",
+        "face, µs",
+        "ratio",
+    ]);
     let random = &mut Random::new(3);
     for way in ways() {
         let map = hills(&way, way.radius, random);
@@ -142,10 +147,10 @@ pub fn faces(rows: &Rows) {
             if rows.has(&format!("{name}, {}", way.name)) {
                 let [hexx, ours] = face_beside_hexx(&map, face);
                 let ratio = ours / hexx;
-                println!(
-                    "| {name} | {} | {hexx:.1} | {ours:.2} | {ratio:.4} |",
-                    way.name
-                );
+                let way = way.name;
+                table.row(&format!(
+                    "| {name} | {way} | {hexx:.1} | {ours:.2} | {ratio:.4} |"
+                ));
             }
         }
     }
@@ -154,7 +159,7 @@ pub fn faces(rows: &Rows) {
 /// Microseconds of hexx's whole build and of one face of ours.
 fn face_beside_hexx(map: &Map, face: usize) -> [f64; 2] {
     let asked = Asked::of(map);
-    let builder = map.builder(&asked.layout, &asked.store);
+    let builder = asked.builder(map);
     let given = Given::of(map);
     let mut lent = Buffers::marked(given.counts().lengths());
     let mut hexx = || {

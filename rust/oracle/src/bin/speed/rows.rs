@@ -114,3 +114,20 @@ pub fn copy(from: &Buffers, to: &mut Buffers) {
     to.indices.copy_from_slice(&from.indices);
     black_box(to);
 }
+
+/// A table whose heading comes with its first row.
+pub struct Headed(Option<&'static [&'static str]>);
+
+impl Headed {
+    pub fn by(heading: &'static [&'static str]) -> Self {
+        Self(Some(heading))
+    }
+
+    pub fn row(&mut self, row: &str) {
+        if let Some(heading) = self.0.take() {
+            let rule = "---|".repeat(heading.len());
+            println!("\n| {} |\n|{rule}", heading.join(" | "));
+        }
+        println!("{row}");
+    }
+}
