@@ -36,16 +36,28 @@ fn inset_caps_wrap() -> Result<(), String> {
     refused_everywhere(&map, 4)
 }
 
-/// A wall behind as many caps as can be, whose inner corners are vertices 0 to 3.
-fn an_inset_wall_wraps() -> Result<(), String> {
-    let inset = with_inset(capped(1), false);
+/// With caps, and all faces inset: no map has more vertices in as many cells.
+fn densest(walls_in_all: usize) -> Map {
     let map = Map {
         caps: Choice::Default,
-        ..inset
+        ..walls(walls_in_all)
+    };
+    with_inset(map, false)
+}
+
+/// A wall whose inner corners are vertices 0 to 3: behind as many caps as can
+/// be, and in as few cells as can be.
+fn an_inset_wall_wraps() -> Result<(), String> {
+    let plain_caps = Map {
+        caps: Choice::Default,
+        ..with_inset(capped(1), false)
     };
     let connection = [0, 65_532, 65_535, 65_535, 3, 0];
-    wraps(hexx(|| map.hexx()), &connection)?;
-    refused_everywhere(&map, 4)
+    for map in [plain_caps, densest(6553)] {
+        wraps(hexx(|| map.hexx()), &connection)?;
+        refused_everywhere(&map, 4)?;
+    }
+    Ok(())
 }
 
 /// A face that comes after 65,536 vertices or more.
@@ -56,6 +68,7 @@ fn merges_panic() -> Result<(), String> {
         capped(2),
         caps(10_924),
         with_inset(caps(5463), true),
+        densest(6554),
     ];
     for map in maps {
         hold("hexx panics", hexx(|| map.hexx()).is_none(), true)?;
