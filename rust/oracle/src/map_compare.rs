@@ -5,7 +5,7 @@ use crate::MeshInfo;
 use crate::compare::{Tally, Trial, order};
 use crate::distance::{Greatest, MODERATE};
 use crate::limits::{VERTICES, alone, refused_everywhere};
-use crate::map_draws::drawn_map_of;
+use crate::map_draws::{drawn_map_of, drawn_zeros};
 use crate::map_steps::{OVER_HEXX, magnitude, range};
 use crate::map_zeros::{Zeros, other_ends, wanted};
 use crate::maps::{Map, Turn};
@@ -145,6 +145,17 @@ pub fn small(count: u64, turned: bool, random: &mut Random) -> Maps {
             map.turn = Some(any_nine(random));
         }
         one(&mut all, &map, random);
+    }
+    all
+}
+
+/// Drawn maps of at most 24 cells in which the sign of a zero end shows.
+#[must_use]
+pub fn of_zeros(count: u64, random: &mut Random) -> Maps {
+    let mut all = Maps::new();
+    for _ in 0..count {
+        let cells = random.below(25) as usize;
+        one(&mut all, &drawn_zeros(random, cells), random);
     }
     all
 }

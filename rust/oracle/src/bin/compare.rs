@@ -177,6 +177,8 @@ fn maps(
     differ += told_maps("maps", &map_compare::small(count, false, random));
     let great = map_compare::great(count.div_ceil(GREAT), step == 1, random);
     differ += told_maps("great maps", &great);
+    let zeros = map_compare::of_zeros(count / 4, random);
+    differ += told_maps("maps with a range that begins with a zero", &zeros);
     differ += maps_about_the_limit(&map_fills::all(step, random));
     println!("held to the written steps, not to hexx:");
     let name = "maps of the record with a turn";
