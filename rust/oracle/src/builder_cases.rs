@@ -59,7 +59,7 @@ pub fn recorded_planes() -> Cases<Plane> {
     }
     for standing in standings() {
         let turn = plain.len();
-        let options = (turn % 3 > 0).then(|| three_ways(turn)[turn % 3].0);
+        let options = (!turn.is_multiple_of(3)).then(|| three_ways(turn)[turn % 3].0);
         plain.push(plane(at(turn), options, standing));
     }
     let plain = fill(plain, PLANES, || drawn_plane(&mut random, false));
@@ -133,7 +133,7 @@ fn standing_of(turn: usize) -> Standing {
     let position = [Vec2::ZERO, vec2(17.3, -4.25), vec2(-0.0, 2.5)][turn % 3];
     Standing {
         position,
-        centred: turn % 2 == 0,
+        centred: turn.is_multiple_of(2),
         scale: (turn % 4 > 1).then_some(vec3(1.5, 0.7, -2.1)),
         turn: None,
         offset: (turn % 5 > 2).then_some(vec3(0.1, -3.3, 1e-3)),
@@ -204,7 +204,10 @@ fn every_choice() -> Vec<Column> {
             _ => Choice::Entry((at / 3 + face) % 3),
         };
         let there = |face: usize| at >> face & 1 == 1;
-        let choice = |face: usize| there(face).then(|| entry(face)).unwrap_or(Choice::Absent);
+        let choice = |face: usize| match there(face) {
+            true => entry(face),
+            false => Choice::Absent,
+        };
         let corners = regular[at % regular.len()];
         Column {
             ends: ends_of(corners),

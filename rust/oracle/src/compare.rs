@@ -5,7 +5,7 @@ use crate::MeshInfo;
 use crate::buffers::{Buffers, Counts};
 use crate::ours::{Call, Job};
 use crate::random::Random;
-use crate::safe;
+use crate::safe::{self, Safe};
 use hosirekar::Job as _;
 use hosirekar_sys::CAnswer;
 
@@ -18,6 +18,13 @@ pub struct Tally {
 }
 
 impl Tally {
+    /// Of nothing.
+    pub const NONE: Self = Self {
+        tried: 0,
+        differ: 0,
+        first: None,
+    };
+
     /// Counts one in.
     pub fn add(&mut self, found: Result<(), String>) {
         self.tried += 1;
@@ -99,6 +106,11 @@ impl Trial {
         self.starts.len() - 1
     }
 
+    /// One of them; there must be one.
+    pub fn some_face(&self, random: &mut Random) -> usize {
+        random.below(self.faces() as u32) as usize
+    }
+
     fn counts(&self) -> Counts {
         Counts::of(&self.mesh)
     }
@@ -108,6 +120,14 @@ impl Trial {
         let counts = self.counts();
         hold("sums", self.starts[self.faces()], counts)?;
         hold("plan", self.call.plan(), done(counts))
+    }
+
+    /// All that is asked of the calls of one job.
+    pub fn all(&self, random: &mut Random) -> Result<(), String> {
+        self.plan()
+            .and_then(|()| self.whole())
+            .and_then(|()| self.short(random))
+            .and_then(|()| self.by_faces(true, random))
     }
 
     /// A whole build has the mesh's numbers, and leaves all other places.
@@ -133,7 +153,7 @@ impl Trial {
             lengths[list] -= 1;
             let build = self.call.build(buffers.cut(lengths));
             hold("short build", build, refused(5))?;
-            let face = random.below(self.faces() as u32) as usize;
+            let face = self.some_face(random);
             let face = self.call.face(face, buffers.cut(lengths));
             hold("short face", face, refused(5))?;
             let none = self.call.face(self.faces(), buffers.cut(lengths));
@@ -145,10 +165,22 @@ impl Trial {
     /// All faces in some order, some of them again, with refused calls between;
     /// where it is `watched`, every place is looked at after every call.
     pub fn by_faces(&self, watched: bool, random: &mut Random) -> Result<(), String> {
+        let order = order(self.faces(), random);
+        self.in_order(&order, watched, 2, random)
+    }
+
+    /// The same of these faces alone, with a refused call before one of `each`.
+    pub fn in_order(
+        &self,
+        order: &[usize],
+        watched: bool,
+        each: u32,
+        random: &mut Random,
+    ) -> Result<(), String> {
         let mut wanted = Buffers::marked(self.lengths);
         let mut buffers = wanted.clone();
-        for face in order(self.faces(), random) {
-            if random.once_in(2) {
+        for &face in order {
+            if random.once_in(each) {
                 self.refused(&mut buffers, random)?;
             }
             let answer = self.call.face(face, buffers.lent());
@@ -181,7 +213,7 @@ impl Trial {
 }
 
 /// Every number below `count` once, and some twice, in any order.
-fn order(count: usize, random: &mut Random) -> Vec<usize> {
+pub fn order(count: usize, random: &mut Random) -> Vec<usize> {
     let mut order: Vec<usize> = (0..count).collect();
     order.extend((0..count).filter(|_| random.once_in(3)));
     for at in (1..order.len()).rev() {
@@ -191,7 +223,7 @@ fn order(count: usize, random: &mut Random) -> Vec<usize> {
 }
 
 /// The safe crate's own build has exactly the mesh's numbers.
-pub fn safe(job: &impl Job, mesh: &MeshInfo) -> Result<(), String> {
+pub fn safe(job: &impl Safe, mesh: &MeshInfo) -> Result<(), String> {
     let counts = Counts::of(mesh);
     let mut wanted = Buffers::marked(counts.lengths());
     wanted.lay(mesh, Counts::default(), counts);
@@ -208,13 +240,8 @@ pub fn safe(job: &impl Job, mesh: &MeshInfo) -> Result<(), String> {
 }
 
 /// All that is asked of one job.
-pub fn job(job: &impl Job, random: &mut Random) -> Result<(), String> {
+pub fn job(job: &(impl Job + Safe), random: &mut Random) -> Result<(), String> {
     let trial = Trial::new(job, random);
-    let all = trial
-        .plan()
-        .and_then(|()| trial.whole())
-        .and_then(|()| safe(job, &trial.mesh))
-        .and_then(|()| trial.short(random))
-        .and_then(|()| trial.by_faces(true, random));
+    let all = safe(job, &trial.mesh).and_then(|()| trial.all(random));
     all.map_err(|what| format!("{what}\n{job:?}"))
 }

@@ -4,6 +4,7 @@
 use crate::builder_cases::ends_of;
 use crate::builders::{Choice, Column, Standing};
 use crate::compare::{Tally, hold};
+use crate::map_differences;
 use crate::safe::Safe;
 use crate::shapes::regular_hexagons;
 use crate::{MeshInfo, builders::Plane};
@@ -12,7 +13,7 @@ use hosirekar::{Job, Mesh, Refusal};
 use std::panic::{AssertUnwindSafe, catch_unwind, set_hook, take_hook};
 
 /// The next number above 1,000,000.
-const TOO_GREAT: f32 = 1_000_000.062_5;
+pub const TOO_GREAT: f32 = 1_000_000.0_f32.next_up();
 
 /// All rows, panics kept quiet.
 #[must_use]
@@ -31,18 +32,19 @@ pub fn all() -> Tally {
     let hook = take_hook();
     set_hook(Box::new(|_| ()));
     let mut tally = Tally::default();
-    rows.iter().for_each(|row| tally.add(row()));
+    let rows = rows.iter().chain(&map_differences::ROWS);
+    rows.for_each(|row| tally.add(row()));
     set_hook(hook);
     tally
 }
 
 /// hexx's answer, or that it panicked.
-fn hexx(mut ask: impl FnMut() -> MeshInfo) -> Option<MeshInfo> {
+pub(crate) fn hexx(mut ask: impl FnMut() -> MeshInfo) -> Option<MeshInfo> {
     catch_unwind(AssertUnwindSafe(&mut ask)).ok()
 }
 
 /// What a sum past 16 bits does: a build without checks wraps.
-fn wraps(answer: Option<MeshInfo>, end: &[u16]) -> Result<(), String> {
+pub(crate) fn wraps(answer: Option<MeshInfo>, end: &[u16]) -> Result<(), String> {
     if cfg!(debug_assertions) {
         return hold("hexx panics", answer.is_none(), true);
     }

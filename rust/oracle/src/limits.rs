@@ -67,7 +67,8 @@ pub fn all(step: usize, random: &mut Random) -> Limits {
         tally.add(taken(&greatest, number.is_multiple_of(7), random));
         let above = [parts as u32 + 1, parts as u32 + 2, 1 << 30, u32::MAX];
         for parts in above {
-            limits.refused.add(too_many(&with_parts(&column, parts)));
+            let column = with_parts(&column, parts);
+            limits.refused.add(refused_everywhere(&column, 4));
         }
     }
     merges(&mut limits.merges, random);
@@ -162,7 +163,7 @@ fn taken(job: &Column, by_faces: bool, random: &mut Random) -> Result<(), String
 }
 
 /// The first, the last and some face, each on buffers of its own.
-fn alone(trial: &Trial, random: &mut Random) -> Result<(), String> {
+pub fn alone(trial: &Trial, random: &mut Random) -> Result<(), String> {
     let Some(last) = trial.faces().checked_sub(1) else {
         return Ok(());
     };
@@ -177,18 +178,22 @@ fn alone(trial: &Trial, random: &mut Random) -> Result<(), String> {
     Ok(())
 }
 
-/// Refused, whatever the buffers and the face.
-fn too_many(job: &Column) -> Result<(), String> {
+/// Refused with this number, whatever the buffers and the face.
+pub fn refused_everywhere(job: &impl Job, number: u32) -> Result<(), String> {
     let call = job.call();
-    let untouched = Buffers::marked([64; 4]);
-    let mut buffers = untouched.clone();
-    hold("plan of too many", call.plan(), refused(4))?;
-    hold("build of too many", call.build(buffers.lent()), refused(4))?;
-    for face in [0, 65_536, usize::MAX] {
-        let answer = call.face(face, buffers.lent());
-        hold("face of too many", answer, refused(4))?;
+    hold("refused plan", call.plan(), refused(number))?;
+    for lengths in [[64; 4], [0; 4]] {
+        let untouched = Buffers::marked(lengths);
+        let mut buffers = untouched.clone();
+        let answer = call.build(buffers.lent());
+        hold("refused build", answer, refused(number))?;
+        for face in [0, 65_536, usize::MAX] {
+            let answer = call.face(face, buffers.lent());
+            hold("refused face", answer, refused(number))?;
+        }
+        hold_buffers("refused", &buffers, &untouched)?;
     }
-    hold_buffers("too many", &buffers, &untouched)
+    Ok(())
 }
 
 fn merges(tally: &mut Tally, random: &mut Random) {

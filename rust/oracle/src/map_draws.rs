@@ -6,7 +6,7 @@ use crate::builder_cases::{
 };
 use crate::builders::Choice;
 use crate::map_grounds::{Axial, Layout, linked, patch};
-use crate::maps::{Map, NOBODY, OWN, Turn};
+use crate::maps::{Map, NOBODY, NUMBERS, OWN, Turn};
 use crate::numbers::{ENDS, number, within};
 use crate::random::Random;
 use crate::shapes::RANGES;
@@ -64,6 +64,28 @@ pub fn drawn_map_of(random: &mut Random, count: usize, turned: bool) -> Map {
         offset: random.once_in(2).then_some(offset),
         options,
         ..ground
+    }
+}
+
+/// A drawn map of so many cells whose range begins or ends with a zero, with
+/// heights of either sign, and whose sides show which one.
+pub fn drawn_zeros(random: &mut Random, count: usize) -> Map {
+    let mut map = drawn_map_of(random, count, false);
+    for cell in map.cells.chunks_mut(NUMBERS) {
+        cell[0] = random.pick(&[0.0, -0.0, 1.0]);
+    }
+    let beyond = |_| random.pick(&[-0.0, -1.0]);
+    let fringe = (0..6 * count).map(beyond).collect();
+    let mut option = FaceOptions::new();
+    keep_zeros(&mut option, random);
+    Map {
+        fringe: Some(fringe),
+        customs: None,
+        options: vec![option],
+        caps: Choice::Default,
+        sides: Choice::Entry(0),
+        range: None,
+        ..map
     }
 }
 

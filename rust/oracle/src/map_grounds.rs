@@ -5,6 +5,7 @@ use crate::builders::Choice;
 use crate::maps::{Map, NOBODY, NUMBERS};
 use crate::shapes::stretched;
 use glam::{Vec2, vec2};
+use std::collections::HashMap;
 
 /// The place of a hex by its two axes.
 pub type Axial = [i32; 2];
@@ -49,6 +50,7 @@ impl Layout {
             ..empty(corners)
         };
         let sides = if self.pointy { POINTY } else { FLAT };
+        let numbers: HashMap<&Axial, u32> = hexes.iter().zip(0..).collect();
         for (hex, &height) in hexes.iter().zip(heights) {
             let at = self.position(*hex);
             map.cells.extend([height, at.x, at.y]);
@@ -57,8 +59,8 @@ impl Layout {
                     map.cells.extend((at + self.origin + corner).to_array());
                 }
                 let beside = [hex[0] + across[0], hex[1] + across[1]];
-                let cell = hexes.iter().position(|&hex| hex == beside);
-                map.neighbours.push(cell.map_or(NOBODY, |cell| cell as u32));
+                let cell = numbers.get(&beside).copied();
+                map.neighbours.push(cell.unwrap_or(NOBODY));
             }
         }
         map

@@ -147,7 +147,8 @@ pub fn walls(count: usize) -> Map {
 }
 
 /// 10,922 caps, and so many walls on the last of the cells.
-fn capped(walls: usize) -> Map {
+#[must_use]
+pub fn capped(walls: usize) -> Map {
     let map = caps(10_922);
     let mut fringe = vec![10.0; map.neighbours.len()];
     let first = fringe.len() - walls;
@@ -175,7 +176,8 @@ pub fn stepped(count: usize, kept: bool) -> Map {
 }
 
 /// With caps and sides that are there of an inset option.
-fn with_inset(map: Map, kept: bool) -> Map {
+#[must_use]
+pub fn with_inset(map: Map, kept: bool) -> Map {
     let inset = inset(MODES[usize::from(kept)], 0.25, kept);
     let option: FaceOptions = options(UVOptions::new(), Some(inset));
     let there = |choice: Choice| match choice {

@@ -145,7 +145,7 @@ pub fn faces(way: &Way, map: &Map, range: [f32; 2]) -> Vec<Mesh> {
 
 /// The options of a face whose custom number stands at `at`: its own, else
 /// those of all caps or sides. A custom option alone makes no face.
-fn options(way: &Way, map: &Map, all: Choice, at: usize) -> Option<FaceOptions> {
+pub(crate) fn options(way: &Way, map: &Map, all: Choice, at: usize) -> Option<FaceOptions> {
     let all = all.options(&map.options)?;
     let Some(customs) = &map.customs else {
         return Some(all);
@@ -171,7 +171,7 @@ pub fn range(way: &Way, map: &Map) -> [f32; 2] {
 }
 
 /// The height beyond a side where it is below the cell's.
-fn foot(way: &Way, map: &Map, cell: usize, side: usize) -> Option<f32> {
+pub(crate) fn foot(way: &Way, map: &Map, cell: usize, side: usize) -> Option<f32> {
     let neighbour = map.neighbour(cell, (side + way.turned_by) % 6);
     let neighbour = neighbour.map(|neighbour| map.height(neighbour as usize));
     let fringe = map.fringe.as_ref().map(|heights| heights[6 * cell + side]);

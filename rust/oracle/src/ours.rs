@@ -2,16 +2,17 @@
 
 use crate::buffers::{Counts, Lent};
 use crate::builders::{Choice, Column, Plane, Standing};
+use crate::map_call_faults;
+use crate::map_calls::{self, Lists};
 use crate::mesh_cases::Column as CheapColumn;
 use crate::numbers::LIMIT;
 use crate::random::Random;
-use crate::safe::Safe;
 use crate::{FaceOptions, InsetScaleMode, MeshInfo};
 use glam::{Vec2, Vec3};
-use hosirekar_sys::{self as sys, CAnswer, CCheapColumn, CColumn, CPlane};
+use hosirekar_sys::{self as sys, CAnswer, CCheapColumn, CColumn, CHeightMap, CPlane};
 
 /// A job that hexx builds and that we build.
-pub trait Job: Safe + std::fmt::Debug {
+pub trait Job: std::fmt::Debug {
     /// hexx's own mesh; with a turn or a bottom, that of the written steps.
     fn wanted(&self) -> MeshInfo;
     /// The counts of each face, in order.
@@ -35,12 +36,15 @@ pub enum Kind {
     Plane(CPlane),
     Column(CColumn),
     Cheap(CCheapColumn),
+    Map(CHeightMap),
 }
 
 /// What goes over, the lists too.
 #[derive(Debug, Clone)]
 pub struct Call {
     pub kind: Kind,
+    /// What a map has beside the rest.
+    pub lists: Lists,
     pub pairs: Vec<f32>,
     pub corners: Vec<f32>,
     pub numbers: Vec<f32>,
@@ -58,6 +62,7 @@ impl Call {
                 sys::hosirekar_column_plan(job, &self.pairs, corners, numbers, marks)
             }
             Kind::Cheap(job) => sys::hosirekar_cheap_column_plan(job, corners),
+            Kind::Map(job) => map_calls::plan(job, self),
         }
     }
 
@@ -73,6 +78,7 @@ impl Call {
                 sys::hosirekar_column_build(job, &self.pairs, corners, numbers, marks, v, n, u, i)
             }
             Kind::Cheap(job) => sys::hosirekar_cheap_column_build(job, corners, v, n, u, i),
+            Kind::Map(job) => map_calls::build(job, self, [v, n, u], i),
         }
     }
 
@@ -89,6 +95,7 @@ impl Call {
                 sys::hosirekar_column_face(job, pairs, corners, numbers, marks, face, v, n, u, i)
             }
             Kind::Cheap(job) => sys::hosirekar_cheap_column_face(job, corners, face, v, n, u, i),
+            Kind::Map(job) => map_calls::face(job, self, face, [v, n, u], i),
         }
     }
 
@@ -96,6 +103,11 @@ impl Call {
     #[must_use]
     pub fn faulty(&self, random: &mut Random) -> (u32, Self) {
         let mut call = self.clone();
+        if let Kind::Map(mut job) = self.kind {
+            let number = map_call_faults::put(&mut call, &mut job, random);
+            call.kind = Kind::Map(job);
+            return (number, call);
+        }
         let number = match random.below(6) {
             0 => {
                 call.corners.push(0.0);
@@ -144,7 +156,7 @@ impl Call {
 }
 
 /// The counts of a face of so many corners with these options.
-fn counts(corners: usize, options: &FaceOptions) -> Counts {
+pub(crate) fn counts(corners: usize, options: &FaceOptions) -> Counts {
     // Two triangles fewer than corners, and two on each edge of an inset.
     let inner = 3 * (corners - 2);
     let (vertices, indices) = match options.insetting {
@@ -157,11 +169,11 @@ fn counts(corners: usize, options: &FaceOptions) -> Counts {
     Counts { vertices, indices }
 }
 
-fn flat(points: &[Vec2]) -> Vec<f32> {
+pub(crate) fn flat(points: &[Vec2]) -> Vec<f32> {
     points.iter().flat_map(|p| p.to_array()).collect()
 }
 
-fn vec2(v: Vec2) -> sys::CVec2 {
+pub(crate) fn vec2(v: Vec2) -> sys::CVec2 {
     sys::CVec2 { x: v.x, y: v.y }
 }
 
@@ -180,20 +192,28 @@ fn choice3(v: Option<Vec3>) -> sys::CChoice3 {
     }
 }
 
+/// A scale, the rows of a turn and an offset, each if given.
+pub(crate) fn placement(
+    scale: Option<Vec3>,
+    rows: Option<[Vec3; 3]>,
+    offset: Option<Vec3>,
+) -> sys::CPlacement {
+    let [first, second, third] = rows.unwrap_or([Vec3::NAN; 3]).map(vec3);
+    sys::CPlacement {
+        scale: choice3(scale),
+        turn: sys::CTurn {
+            given: rows.is_some(),
+            first,
+            second,
+            third,
+        },
+        offset: choice3(offset),
+    }
+}
+
 impl Standing {
     fn placement(&self) -> sys::CPlacement {
-        let rows = self.rows();
-        let [first, second, third] = rows.unwrap_or([Vec3::NAN; 3]).map(vec3);
-        sys::CPlacement {
-            scale: choice3(self.scale),
-            turn: sys::CTurn {
-                given: rows.is_some(),
-                first,
-                second,
-                third,
-            },
-            offset: choice3(self.offset),
-        }
+        placement(self.scale, self.rows(), self.offset)
     }
 }
 
@@ -205,7 +225,7 @@ impl Choice {
         }
     }
 
-    fn given(self) -> sys::CChoice {
+    pub(crate) fn given(self) -> sys::CChoice {
         match self {
             // An option that names nothing, were it read.
             Self::Absent => sys::CChoice {
@@ -221,7 +241,7 @@ impl Choice {
 }
 
 /// The numbers and the marks of a table of options.
-fn table(options: &[FaceOptions]) -> (Vec<f32>, Vec<u8>) {
+pub(crate) fn table(options: &[FaceOptions]) -> (Vec<f32>, Vec<u8>) {
     let (mut numbers, mut marks) = (Vec::new(), Vec::new());
     for FaceOptions { uv, insetting } in options {
         let pairs = [uv.scale_factor, uv.offset, uv.rect.min, uv.rect.max];
@@ -258,6 +278,7 @@ impl Job for Plane {
                 option: self.choice.number(),
                 placement: self.standing.placement(),
             }),
+            lists: Lists::default(),
             pairs: Vec::new(),
             corners: flat(&self.corners),
             numbers,
@@ -303,6 +324,7 @@ impl Job for Column {
                 position: vec2(self.standing.position),
                 placement: self.standing.placement(),
             }),
+            lists: Lists::default(),
             pairs: flat(self.ends.as_flattened()),
             corners: flat(&self.corners),
             numbers,
@@ -329,6 +351,7 @@ impl Job for CheapColumn {
                 centre: vec2(self.centre),
                 height: self.height,
             }),
+            lists: Lists::default(),
             pairs: Vec::new(),
             corners: flat(&self.corners),
             numbers: Vec::new(),

@@ -6,13 +6,19 @@ use oracle::builders::Column;
 use oracle::compare::{Tally, job};
 use oracle::differences;
 use oracle::limits::{self, Limits};
+use oracle::map_compare::{self, Maps};
+use oracle::map_fills::{self, Fills};
 use oracle::mesh_cases::{Cases, Merge};
 use oracle::ours::Job;
 use oracle::random::Random;
+use oracle::safe::Safe;
 use oracle::stored::{Change, centroids, change, merge};
-use oracle::{builder_cases, mesh_cases};
+use oracle::{builder_cases, map_cases, mesh_cases};
 use std::process::ExitCode;
 use std::time::Instant;
+
+/// Of so many drawn maps one more is great.
+const GREAT: u64 = 2_000;
 
 /// What is asked for.
 struct Asked {
@@ -21,20 +27,25 @@ struct Asked {
     seed: u64,
     /// Of the jobs about the limit, each how manieth is tried.
     step: usize,
+    /// Whether height maps alone are tried.
+    maps: bool,
 }
 
 fn asked() -> Option<Asked> {
     let arguments: Vec<String> = std::env::args().skip(1).collect();
-    match arguments.as_slice() {
+    let maps = arguments.first().is_some_and(|word| word == "maps");
+    match &arguments[usize::from(maps)..] {
         [short] if short == "short" => Some(Asked {
             count: 2_000,
             seed: 1,
             step: 17,
+            maps,
         }),
         [count, seed] => Some(Asked {
             count: count.parse().ok()?,
             seed: seed.parse().ok()?,
             step: 1,
+            maps,
         }),
         _ => None,
     }
@@ -42,13 +53,30 @@ fn asked() -> Option<Asked> {
 
 fn main() -> ExitCode {
     let Some(asked) = asked() else {
-        eprintln!("compare short | count seed");
+        eprintln!("compare [maps] short | count seed");
         return ExitCode::from(2);
     };
     eprintln!("made with {}", oracle::MADE_WITH);
     let began = Instant::now();
+    let mut differ = match asked.maps {
+        true => 0,
+        false => all_but_maps(&asked),
+    };
+    differ += maps(&asked);
+    differ += told(
+        "where hexx panics, wraps or takes more",
+        &differences::all(),
+    );
+    println!("{differ} differ, {:.0} s", began.elapsed().as_secs_f64());
+    ExitCode::from(u8::from(differ > 0))
+}
+
+fn all_but_maps(
+    &Asked {
+        count, seed, step, ..
+    }: &Asked,
+) -> u64 {
     let mut differ = recorded();
-    let Asked { count, seed, .. } = asked;
     differ += drawn("planes", count, seed, |random| {
         job(&builder_cases::drawn_plane(random, false), random)
     });
@@ -65,21 +93,16 @@ fn main() -> ExitCode {
         merge(&built(random), random)
     });
     differ += drawn("stored meshes", count, seed, stored);
-    differ += about_the_limit(&limits::all(asked.step, &mut Random::new(seed)));
-    differ += told(
-        "where hexx panics, wraps or takes more",
-        &differences::all(),
-    );
+    differ += about_the_limit(&limits::all(step, &mut Random::new(seed)));
     println!("held to the written steps, not to hexx:");
     differ += drawn("planes with a turn", count / 4, seed, |random| {
         job(&builder_cases::drawn_plane(random, true), random)
     });
     let name = "columns with a turn or a bottom";
-    differ += drawn(name, count / 4, seed, |random| {
-        job(&builder_cases::drawn_column(random, true), random)
-    });
-    println!("{differ} differ, {:.0} s", began.elapsed().as_secs_f64());
-    ExitCode::from(u8::from(differ > 0))
+    differ
+        + drawn(name, count / 4, seed, |random| {
+            job(&builder_cases::drawn_column(random, true), random)
+        })
 }
 
 /// Writes a line, with what the first one shows that differs.
@@ -105,7 +128,7 @@ fn drawn(
 
 /// The jobs and the stored meshes of the records.
 fn recorded() -> u64 {
-    fn jobs(name: &str, jobs: &[impl Job], random: &mut Random) -> u64 {
+    fn jobs(name: &str, jobs: &[impl Job + Safe], random: &mut Random) -> u64 {
         let mut tally = Tally::default();
         jobs.iter().for_each(|one| tally.add(job(one, random)));
         told(name, &tally)
@@ -138,6 +161,43 @@ fn recorded_meshes(cases: &Cases, random: &mut Random) -> u64 {
         tally.add(merge(case, random));
     }
     told("stored meshes and merges of the record", &tally)
+}
+
+/// Maps of the record, drawn ones of at most 40 cells, great ones, and those
+/// about the limit.
+fn maps(
+    &Asked {
+        count, seed, step, ..
+    }: &Asked,
+) -> u64 {
+    let random = &mut Random::new(seed);
+    let recorded = map_cases::recorded_maps();
+    let name = "maps of the record";
+    let mut differ = told_maps(name, &map_compare::given(&recorded.plain, random));
+    differ += told_maps("maps", &map_compare::small(count, false, random));
+    let great = map_compare::great(count.div_ceil(GREAT), step == 1, random);
+    differ += told_maps("great maps", &great);
+    let zeros = map_compare::of_zeros(count / 4, random);
+    differ += told_maps("maps with a range that begins with a zero", &zeros);
+    differ += maps_about_the_limit(&map_fills::all(step, random));
+    println!("held to the written steps, not to hexx:");
+    let name = "maps of the record with a turn";
+    differ += told_maps(name, &map_compare::given(&recorded.turned, random));
+    let turned = map_compare::small(count / 4, true, random);
+    differ + told_maps("maps with a turn", &turned)
+}
+
+fn told_maps(name: &str, maps: &Maps) -> u64 {
+    let differ = told(name, &maps.tally);
+    println!("{maps}");
+    differ
+}
+
+fn maps_about_the_limit(fills: &Fills) -> u64 {
+    let differ = told("greatest maps that are taken", &fills.taken)
+        + told("maps with a cell more", &fills.refused);
+    println!("  {} times 65536 vertices", fills.exact);
+    differ
 }
 
 /// A drawn column, now and then of many parts.

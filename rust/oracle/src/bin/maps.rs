@@ -9,6 +9,7 @@ use oracle::map_limits::{Limit, limits};
 use oracle::map_runs::has_both_zeros;
 use oracle::map_steps::{OTHER_TIME, OVER_HEXX, WRITTEN, Way, faces, joined, range, whole};
 use oracle::map_words::MapJob;
+use oracle::map_zeros::other_ends;
 use oracle::maps::Map;
 use oracle::random::Random;
 use oracle::steps::Mesh;
@@ -155,20 +156,6 @@ fn compared(map: &Map) -> Found {
 
 fn with_range(way: &Way, map: &Map, ends: [f32; 2]) -> Mesh {
     joined(&faces(way, map, ends))
-}
-
-/// The range with other signs of zero ends, where heights hold both zeros.
-fn other_ends(map: &Map) -> impl Iterator<Item = [f32; 2]> + use<> {
-    let [min, max] = range(&WRITTEN, map);
-    let signs = [[1.0, -1.0], [-1.0, 1.0], [-1.0, -1.0]];
-    let any = map.range.is_none() && has_both_zeros(map);
-    let others = signs.map(|[a, b]| [other(min, a), other(max, b)]);
-    others.into_iter().filter(move |_| any)
-}
-
-/// A zero with another sign, and any other number as it is.
-fn other(end: f32, by: f32) -> f32 {
-    if end == 0.0 { end * by } else { end }
 }
 
 /// How many maps come out otherwise by `way`.

@@ -1,6 +1,6 @@
-//! Times hexx and our own code on the same jobs, in turns, and the copying of
-//! the same bytes beside them.
+//! Planes, columns and cheap columns, whole and by single faces.
 
+use crate::rows::{Rows, Sides, copy};
 use glam::{Vec2, vec2};
 use hosirekar::Job as _;
 use hosirekar_sys::{self as sys, CAnswer, CCheapColumn, CColumn, CPlane};
@@ -16,17 +16,9 @@ use oracle::safe::Safe;
 use oracle::shapes::stretched;
 use oracle::{FaceOptions, Hex, InsetOptions, InsetScaleMode, MeshInfo, UVOptions};
 use std::hint::black_box;
-use std::time::Instant;
 
 /// How many small jobs make a set.
 const SET: usize = 1_000;
-
-/// How often each side is timed; the best counts. Many short readings, so
-/// that each side has some while nothing else runs on the machine.
-const READINGS: usize = 100;
-
-/// How long a reading of hexx takes at least, in seconds.
-const LEAST: f64 = 0.002;
 
 /// What is done to every face of a job.
 #[derive(Clone, Copy)]
@@ -137,7 +129,7 @@ struct Table {
 
 /// A job whose whole build of ours is called by its own name, as hexx's is. A
 /// `Call` would look each time which kind of job it has.
-trait Ours: Job {
+trait Ours: Job + Safe {
     /// What goes over, made before the clock starts.
     type Given;
     fn given(&self) -> Self::Given;
@@ -227,72 +219,13 @@ impl Ours for CheapColumn {
     }
 }
 
-/// The sides of a comparison, each a pass over the set.
-struct Sides<'s> {
-    /// Vertices that a pass makes.
-    vertices: usize,
-    hexx: &'s mut dyn FnMut(),
-    /// Into lent lists that are not cleared.
-    lent: &'s mut dyn FnMut(),
-    /// The safe crate's own build: a plan, and new cleared lists.
-    new: Option<&'s mut dyn FnMut()>,
-    copy: &'s mut dyn FnMut(),
-}
-
-fn seconds(pass: &mut dyn FnMut(), passes: usize) -> f64 {
-    let began = Instant::now();
-    (0..passes).for_each(|_| pass());
-    began.elapsed().as_secs_f64() / passes as f64
-}
-
-impl Sides<'_> {
-    /// Times all sides in turns and writes a line.
-    fn tell(self, job: &str, way: &str) {
-        let name = format!("{job}, {way}");
-        if !std::env::args()
-            .nth(1)
-            .is_none_or(|asked| name.contains(&asked))
-        {
-            return;
-        }
-        let once = seconds(self.hexx, 3);
-        let passes = (LEAST / once).ceil() as usize;
-        let mut best = [f64::INFINITY; 4];
-        let mut new = self.new;
-        for _ in 0..READINGS {
-            best[0] = best[0].min(seconds(self.hexx, passes));
-            best[1] = best[1].min(seconds(self.lent, passes));
-            if let Some(new) = &mut new {
-                best[2] = best[2].min(seconds(new, passes));
-            }
-            best[3] = best[3].min(seconds(self.copy, passes));
-        }
-        let [hexx, lent, new, copy] = best.map(|time| time * 1e9 / self.vertices as f64);
-        let new = match new.is_finite() {
-            true => format!("{new:.2} | {:.2}", new / hexx),
-            false => "- | -".to_string(),
-        };
-        println!(
-            "| {job} | {way} | {hexx:.2} | {lent:.2} | {:.2} | {new} | {copy:.2} |",
-            lent / hexx
-        );
-    }
-}
-
-/// Copies the lists of one mesh to another.
-fn copy(from: &Buffers, to: &mut Buffers) {
-    to.vertices.copy_from_slice(&from.vertices);
-    to.normals.copy_from_slice(&from.normals);
-    to.uvs.copy_from_slice(&from.uvs);
-    to.indices.copy_from_slice(&from.indices);
-    black_box(to);
-}
-
 /// Whole builds of some jobs of the same counts; `hexx` builds the numbered one.
-fn whole<J: Ours>(name: &str, way: &str, jobs: &[J], mut hexx: impl FnMut(usize) -> MeshInfo)
-where
-    J::Job: hosirekar::Job,
-{
+fn whole<J: Ours>(
+    rows: &Rows,
+    [name, way]: [&str; 2],
+    jobs: &[J],
+    mut hexx: impl FnMut(usize) -> MeshInfo,
+) {
     let counts = Counts::of(&hexx(0));
     let Call { numbers, marks, .. } = jobs[0].call();
     let table = Table { numbers, marks };
@@ -323,11 +256,12 @@ where
         copy: &mut || jobs.iter().for_each(|_| copy(black_box(&from), &mut to)),
     };
     let job = format!("{name}, {} vertices", counts.vertices);
-    sides.tell(&job, way);
+    rows.tell(sides, &job, way);
 }
 
 /// Single faces: the numbered one of each column, and hexx's same face alone.
 fn faces(
+    rows: &Rows,
     name: &str,
     way: Way,
     columns: &[Column],
@@ -360,7 +294,7 @@ fn faces(
         new: None,
         copy: &mut || columns.iter().for_each(|_| copy(black_box(&from), &mut to)),
     };
-    sides.tell(name, way.name);
+    rows.tell(sides, name, way.name);
 }
 
 /// hexx's lowest part of side 3, by itself and not placed.
@@ -375,50 +309,50 @@ fn part(column: &Column, options: FaceOptions) -> MeshInfo {
     })
 }
 
-fn great_columns(random: &mut Random) {
+fn great_columns(rows: &Rows, random: &mut Random) {
     for way in ways() {
         let great = [column(way, Some(way.parts), random)];
         let layout = great[0].layout();
         let builder = great[0].builder(&layout);
-        whole("a great column", way.name, &great, |_| {
+        whole(rows, ["a great column", way.name], &great, |_| {
             builder.clone().build()
         });
     }
 }
 
-fn small_columns(random: &mut Random) {
+fn small_columns(rows: &Rows, random: &mut Random) {
     for way in ways() {
         let small: Vec<Column> = (0..SET).map(|_| column(way, None, random)).collect();
         let layouts: Vec<_> = small.iter().map(Column::layout).collect();
         let both = small.iter().zip(&layouts);
         let builders: Vec<_> = both.map(|(job, layout)| job.builder(layout)).collect();
-        whole("a small column", way.name, &small, |at| {
+        whole(rows, ["a small column", way.name], &small, |at| {
             builders[at].clone().build()
         });
     }
 }
 
-fn planes(random: &mut Random) {
+fn planes(rows: &Rows, random: &mut Random) {
     for way in ways() {
         let planes: Vec<Plane> = (0..SET).map(|_| plane(way, random)).collect();
         let layouts: Vec<_> = planes.iter().map(Plane::layout).collect();
         let both = planes.iter().zip(&layouts);
         let builders: Vec<_> = both.map(|(job, layout)| job.builder(layout)).collect();
-        whole("a plane", way.name, &planes, |at| {
+        whole(rows, ["a plane", way.name], &planes, |at| {
             builders[at].clone().build()
         });
     }
 }
 
-fn cheap_columns(random: &mut Random) {
+fn cheap_columns(rows: &Rows, random: &mut Random) {
     let columns: Vec<CheapColumn> = (0..SET).map(|_| cheap(random)).collect();
     let layouts: Vec<_> = columns.iter().map(CheapColumn::layout).collect();
-    whole("a cheap column", "", &columns, |at| {
+    whole(rows, ["a cheap column", ""], &columns, |at| {
         MeshInfo::cheap_hexagonal_column(&layouts[at], Hex::ZERO, columns[at].height)
     });
 }
 
-fn single_faces(random: &mut Random) {
+fn single_faces(rows: &Rows, random: &mut Random) {
     for way in ways() {
         for (name, parts) in [
             ("one side of a small column", None),
@@ -427,21 +361,29 @@ fn single_faces(random: &mut Random) {
             let columns: Vec<Column> = (0..SET).map(|_| column(way, parts, random)).collect();
             // The lowest part of side 3.
             let number = 3 * columns[0].parts() as usize;
-            faces(name, way, &columns, number, |column| {
+            faces(rows, name, way, &columns, number, |column| {
                 part(column, way.face())
             });
         }
     }
 }
 
-fn main() {
-    eprintln!("made with {}", oracle::MADE_WITH);
+/// All rows of these kinds that are asked for.
+pub fn tell(rows: &Rows) {
     println!("| job | options | hexx | ours, lent | ratio | ours, new | ratio | copy |");
     println!("|---|---|---|---|---|---|---|---|");
     let random = &mut Random::new(1);
-    great_columns(random);
-    small_columns(random);
-    planes(random);
-    cheap_columns(random);
-    single_faces(random);
+    if rows.of("columns") {
+        great_columns(rows, random);
+        small_columns(rows, random);
+    }
+    if rows.of("planes") {
+        planes(rows, random);
+    }
+    if rows.of("cheap") {
+        cheap_columns(rows, random);
+    }
+    if rows.of("faces") {
+        single_faces(rows, random);
+    }
 }

@@ -1,0 +1,22 @@
+//! Times hexx and our own code on the same jobs, in turns, and the copying of
+//! the same bytes beside them. Arguments choose the rows: kinds (`columns`,
+//! `planes`, `cheap`, `faces`, `maps`) and parts of names.
+
+mod hills;
+mod jobs;
+mod map_growth;
+mod maps;
+mod rows;
+
+use rows::Rows;
+
+fn main() {
+    eprintln!("made with {}", oracle::MADE_WITH);
+    let rows = &Rows::asked();
+    jobs::tell(rows);
+    if rows.of("maps") {
+        maps::whole(rows);
+        maps::faces(rows);
+        map_growth::tell(rows);
+    }
+}
