@@ -36,7 +36,8 @@ struct Folder(PathBuf);
 
 impl Folder {
     fn new(what: &str) -> Folder {
-        let path = env::temp_dir().join(format!("hosirekar-{}-{what}", process::id()));
+        let name = format!("hosirekar-{}-{what}", process::id());
+        let path = env::temp_dir().join(name.replace(['/', ' '], "-"));
         fs::create_dir_all(&path).unwrap_or_else(|why| panic!("{}: {why}", path.display()));
         Folder(path)
     }
