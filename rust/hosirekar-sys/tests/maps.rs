@@ -176,11 +176,12 @@ fn which_sides_stand() {
     assert_eq!(map.plan(), done(0, 0), "sides off");
 }
 
-/// Faults of the order's numbers, each by itself and with all later ones beside it.
-#[test]
-fn the_first_fault_counts() {
-    type Fault = (u32, &'static str, fn(&mut HeightMap));
-    let faults: [Fault; 13] = [
+/// A number of the order, what is wrong, and what makes it so.
+type Wrong = (u32, &'static str, fn(&mut HeightMap));
+
+/// What can be wrong with a map of caps.
+fn wrongs() -> [Wrong; 13] {
+    [
         (1, "a fringe that means nothing", |m| m.job.fringe = 0),
         (1, "a number too few", |m| {
             m.cells.pop();
@@ -220,7 +221,13 @@ fn the_first_fault_counts() {
             m.neighbours[3] = NOBODY - 1
         }),
         (4, "too many vertices", |_| ()),
-    ];
+    ]
+}
+
+/// Faults of the order's numbers, each by itself and with all later ones beside it.
+#[test]
+fn the_first_fault_counts() {
+    let faults = wrongs();
     for (number, what, change) in &faults {
         let mut alone = caps(3);
         change(&mut alone);
