@@ -115,6 +115,22 @@ typedef struct HosirekarUvCentroid {
     HosirekarVec2 centroid;
 } HosirekarUvCentroid;
 
+/* An answer, and how many faces a job has: 0 where the call was refused. */
+typedef struct HosirekarFaces {
+    HosirekarAnswer answer;
+    size_t faces;
+} HosirekarFaces;
+
+/* An answer, and which vertices and indices are one face's: the first of each, and how many there are. All
+ * are 0 where the call was refused. */
+typedef struct HosirekarWindow {
+    HosirekarAnswer answer;
+    size_t first_vertex;
+    size_t first_index;
+    size_t vertices;
+    size_t indices;
+} HosirekarWindow;
+
 /* Which components of a uv are mirrored. */
 typedef struct HosirekarFlip {
     bool u;
@@ -247,6 +263,21 @@ HosirekarAnswer hosirekar_plane_face(
     float *uvs, size_t uvs_len,
     uint16_t *indices, size_t indices_len);
 
+/* How many faces a plane has, or why it is refused, as a plan is. */
+HosirekarFaces hosirekar_plane_faces(
+    HosirekarPlane job,
+    const float *corners, size_t corners_len,
+    const float *numbers, size_t numbers_len,
+    const uint8_t *marks, size_t marks_len);
+
+/* The places of one face of a plane, or why it is refused: as a plan is, and then with 6. */
+HosirekarWindow hosirekar_plane_window(
+    HosirekarPlane job,
+    const float *corners, size_t corners_len,
+    const float *numbers, size_t numbers_len,
+    const uint8_t *marks, size_t marks_len,
+    size_t number);
+
 /* The counts of a column, or why it is refused. pairs are the left and the right end of each of its six
  * sides, x and z: 24 numbers, of absent sides too. */
 HosirekarAnswer hosirekar_column_plan(
@@ -281,6 +312,23 @@ HosirekarAnswer hosirekar_column_face(
     float *uvs, size_t uvs_len,
     uint16_t *indices, size_t indices_len);
 
+/* How many faces a column has, or why it is refused, as a plan is. */
+HosirekarFaces hosirekar_column_faces(
+    HosirekarColumn job,
+    const float *pairs, size_t pairs_len,
+    const float *corners, size_t corners_len,
+    const float *numbers, size_t numbers_len,
+    const uint8_t *marks, size_t marks_len);
+
+/* The places of one face of a column, or why it is refused: as a plan is, and then with 6. */
+HosirekarWindow hosirekar_column_window(
+    HosirekarColumn job,
+    const float *pairs, size_t pairs_len,
+    const float *corners, size_t corners_len,
+    const float *numbers, size_t numbers_len,
+    const uint8_t *marks, size_t marks_len,
+    size_t number);
+
 /* The counts of a cheap column, or why it is refused. */
 HosirekarAnswer hosirekar_cheap_column_plan(
     HosirekarCheapColumn job,
@@ -304,6 +352,17 @@ HosirekarAnswer hosirekar_cheap_column_face(
     float *normals, size_t normals_len,
     float *uvs, size_t uvs_len,
     uint16_t *indices, size_t indices_len);
+
+/* How many faces a cheap column has, or why it is refused, as a plan is. */
+HosirekarFaces hosirekar_cheap_column_faces(
+    HosirekarCheapColumn job,
+    const float *corners, size_t corners_len);
+
+/* The places of one face of a cheap column, or why it is refused: as a plan is, and then with 6. */
+HosirekarWindow hosirekar_cheap_column_window(
+    HosirekarCheapColumn job,
+    const float *corners, size_t corners_len,
+    size_t number);
 
 /* A height map takes at most 65,536 cells, in lists of so many numbers a cell:
  * - cells, 27: the height, the position, and of each side the left end and the right, all x and z;
@@ -353,6 +412,29 @@ HosirekarAnswer hosirekar_heightmap_face(
     float *normals, size_t normals_len,
     float *uvs, size_t uvs_len,
     uint16_t *indices, size_t indices_len);
+
+/* How many faces a height map has, or why it is refused, as a plan is. */
+HosirekarFaces hosirekar_heightmap_faces(
+    HosirekarHeightMap job,
+    const float *cells, size_t cells_len,
+    const uint32_t *neighbours, size_t neighbours_len,
+    const float *fringe, size_t fringe_len,
+    const uint8_t *customs, size_t customs_len,
+    const float *corners, size_t corners_len,
+    const float *numbers, size_t numbers_len,
+    const uint8_t *marks, size_t marks_len);
+
+/* The places of one face of a height map, or why it is refused: as a plan is, and then with 6. */
+HosirekarWindow hosirekar_heightmap_window(
+    HosirekarHeightMap job,
+    const float *cells, size_t cells_len,
+    const uint32_t *neighbours, size_t neighbours_len,
+    const float *fringe, size_t fringe_len,
+    const uint8_t *customs, size_t customs_len,
+    const float *corners, size_t corners_len,
+    const float *numbers, size_t numbers_len,
+    const uint8_t *marks, size_t marks_len,
+    size_t number);
 
 /* ---- Stored meshes: counts, and lists that are at least as long. Their numbers may be anything. */
 

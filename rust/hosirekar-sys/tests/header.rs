@@ -134,7 +134,7 @@ fn statements(text: &str) -> Vec<String> {
 #[test]
 fn the_header_declares_what_the_archive_has() {
     let (functions, structs) = (exported(), source_structs());
-    assert!(functions.len() >= 22 && structs.len() >= 19);
+    assert!(functions.len() >= 30 && structs.len() >= 21);
     let wanted = functions.iter().map(function);
     let wanted = wanted.chain(structs.iter().map(structure));
     let wanted: BTreeSet<String> = wanted.chain([numbers()]).collect();
@@ -174,6 +174,8 @@ fn layouts() -> Vec<Layout> {
         CAnswer { number spare vertices indices }
         CCentroid { answer centroid }
         CUvCentroid { answer centroid }
+        CFaces { answer faces }
+        CWindow { answer first_vertex first_index vertices indices }
         CFlip { u v }
         CUvOptions { scale offset min max flip }
         CChoice { given option }
