@@ -2,6 +2,7 @@
 //! 1, 2, 3, 4, 6, 5 gives the number, and every place of the lists stays as it was.
 
 mod common;
+use common::faults::*;
 use common::jobs::{HeightMap, Job, Table};
 use common::*;
 use hosirekar_sys::*;
@@ -64,15 +65,16 @@ fn walls(n: usize) -> HeightMap {
     map
 }
 
-/// Every sort of call, in lists long enough for a mesh of so many vertices and indices, and in empty ones.
-fn hold_refused(map: &HeightMap, number: u32, face: u32, what: &str) {
+/// Every sort of call, in lists with room for so much, and in empty ones.
+fn hold_refused(map: &HeightMap, number: u32, room: Lengths, what: &str) {
     assert_eq!(map.plan(), refused(number), "{what}: plan");
-    for lengths in [needs(65_536, 262_144), [0; 4]] {
+    for lengths in [room, [0; 4]] {
         let known = Mesh::known(lengths);
         let mut mesh = known.clone();
         assert_eq!(map.build(mesh.all()), refused(number), "{what}: build");
         for at in [0, 1, usize::MAX] {
-            assert_eq!(map.face(at, mesh.all()), refused(face), "{what}: face {at}");
+            let answer = map.face(at, mesh.all());
+            assert_eq!(answer, refused(number), "{what}: face {at}");
         }
         mesh.hold(&known, what);
     }
@@ -143,9 +145,10 @@ fn as_many_as_can_be() {
 
 #[test]
 fn one_more() {
-    hold_refused(&caps(10_923), 4, 4, "10,923 caps");
-    hold_refused(&walls(16_385), 4, 4, "16,385 walls");
-    hold_refused(&cells(65_537), 1, 1, "65,537 cells");
+    let all = needs(65_536, 262_144);
+    hold_refused(&caps(10_923), 4, all, "10,923 caps");
+    hold_refused(&walls(16_385), 4, all, "16,385 walls");
+    hold_refused(&cells(65_537), 1, all, "65,537 cells");
 }
 
 /// A side stands where the height beyond it is below the cell's, and nowhere else.
@@ -173,14 +176,19 @@ fn which_sides_stand() {
     assert_eq!(map.plan(), done(0, 0), "sides off");
 }
 
-/// Faults of the order's numbers, each by itself and with all later ones beside it.
-#[test]
-fn the_first_fault_counts() {
-    type Fault = (u32, &'static str, fn(&mut HeightMap));
-    let faults: [Fault; 13] = [
+/// A number of the order, what is wrong, and what makes it so.
+type Wrong = (u32, &'static str, fn(&mut HeightMap));
+
+/// What can be wrong with a map of caps.
+fn wrongs() -> [Wrong; 13] {
+    [
         (1, "a fringe that means nothing", |m| m.job.fringe = 0),
-        (1, "a number too few", |m| drop(m.cells.pop())),
-        (1, "a neighbour too few", |m| drop(m.neighbours.pop())),
+        (1, "a number too few", |m| {
+            m.cells.pop();
+        }),
+        (1, "a neighbour too few", |m| {
+            m.neighbours.pop();
+        }),
         (1, "a fringe height too many", |m| {
             m.job.fringe = 2;
             m.fringe = vec![0.0; m.neighbours.len() + 1];
@@ -213,12 +221,18 @@ fn the_first_fault_counts() {
             m.neighbours[3] = NOBODY - 1
         }),
         (4, "too many vertices", |_| ()),
-    ];
+    ]
+}
+
+/// Faults of the order's numbers, each by itself and with all later ones beside it.
+#[test]
+fn the_first_fault_counts() {
+    let faults = wrongs();
     for (number, what, change) in &faults {
         let mut alone = caps(3);
         change(&mut alone);
         if *number < 4 {
-            hold_refused(&alone, *number, *number, what);
+            hold_refused(&alone, *number, needs(65_536, 262_144), what);
         }
         let mut map = caps(10_923);
         change(&mut map);
@@ -228,6 +242,170 @@ fn the_first_fault_counts() {
             }
         }
         change(&mut map);
-        hold_refused(&map, *number, *number, what);
+        hold_refused(&map, *number, needs(65_536, 262_144), what);
+    }
+}
+
+/// Cells with every list and every number given, whose faces all have an inset: 60 vertices and 228 indices
+/// each.
+fn given(n: usize) -> HeightMap {
+    let mut map = cells(n);
+    let inset = CChoice {
+        given: true,
+        option: 0,
+    };
+    map.job = CHeightMap {
+        caps: inset,
+        sides: inset,
+        customs: true,
+        fringe: 2,
+        range: CRange {
+            given: true,
+            min: -0.5,
+            max: 1.5,
+        },
+        origin: COrigin {
+            given: true,
+            at: CVec2 { x: 3.0, y: -2.0 },
+        },
+        placement: placement(),
+    };
+    map.fringe = vec![0.0; 6 * n];
+    map.customs = vec![255; 7 * n];
+    map.table = table();
+    map
+}
+
+/// So many numbers at the front of a list and at its end.
+fn ends(list: &mut [f32], count: usize) -> impl Iterator<Item = &mut f32> {
+    let (front, rest) = list.split_at_mut(count);
+    let last = rest.len() - count;
+    front.iter_mut().chain(&mut rest[last..])
+}
+
+/// Every number of the first and the last cell and of all that is given once.
+fn numbers(map: &mut HeightMap) -> Vec<&mut f32> {
+    let CHeightMap {
+        range,
+        origin,
+        placement,
+        ..
+    } = &mut map.job;
+    let mut numbers: Vec<&mut f32> = ends(&mut map.cells, 27).collect();
+    numbers.extend(ends(&mut map.fringe, 6));
+    numbers.extend(&mut map.corners);
+    numbers.extend(&mut map.table.numbers);
+    numbers.extend([&mut range.min, &mut range.max]);
+    numbers.extend(vec2(&mut origin.at));
+    numbers.extend(placement_numbers(placement));
+    numbers
+}
+
+/// An option that names nothing: of all caps, of all sides, and of the first and the last face.
+fn option_faults() -> Vec<Fault<HeightMap>> {
+    type Place = fn(&mut HeightMap) -> &mut u8;
+    let places: [(&str, Place); 4] = [
+        ("caps", |m| &mut m.job.caps.option),
+        ("sides", |m| &mut m.job.sides.option),
+        ("the first face", |m| &mut m.customs[0]),
+        ("the last face", |m| m.customs.last_mut().unwrap()),
+    ];
+    let numbers = |(name, of): (&str, Place)| {
+        [1, 64, 254].map(|option| {
+            fault(format!("option {option} of {name}"), move |m| {
+                *of(m) = option
+            })
+        })
+    };
+    places.into_iter().flat_map(numbers).collect()
+}
+
+/// What is refused with 1.
+fn shape_faults() -> Vec<Fault<HeightMap>> {
+    let mut faults = table_faults(|m: &mut HeightMap| &mut m.table);
+    faults.extend(list_faults("cells", |m: &mut HeightMap| &mut m.cells));
+    faults.extend(list_faults("neighbours", |m: &mut HeightMap| {
+        &mut m.neighbours
+    }));
+    faults.extend(list_faults("fringe", |m: &mut HeightMap| &mut m.fringe));
+    faults.extend(list_faults("customs", |m: &mut HeightMap| &mut m.customs));
+    faults.extend(list_faults("corners", |m: &mut HeightMap| &mut m.corners));
+    faults.extend([0, 3, 255].map(|mark| {
+        fault(format!("fringe {mark}"), move |m: &mut HeightMap| {
+            m.job.fringe = mark
+        })
+    }));
+    faults.extend(option_faults());
+    faults
+}
+
+/// What is refused with 2: each number past either end of the range, infinite, or none.
+fn range_faults() -> Vec<Fault<HeightMap>> {
+    let count = numbers(&mut given(2)).len();
+    let beyond = |place: usize| {
+        BEYOND.map(|value| {
+            fault(format!("{value:08x} at number {place}"), move |m| {
+                *numbers(m)[place] = f32::from_bits(value)
+            })
+        })
+    };
+    (0..count).flat_map(beyond).collect()
+}
+
+/// What is refused with 3: a neighbour of the first side or of the last that is no cell.
+fn neighbour_faults() -> Vec<Fault<HeightMap>> {
+    let to = |is_first: bool, far: bool| {
+        let name = format!("first {is_first}, far {far}");
+        fault(name, move |m: &mut HeightMap| {
+            let count = (m.cells.len() / 27) as u32;
+            let at = if is_first { 0 } else { m.neighbours.len() - 1 };
+            m.neighbours[at] = if far { NOBODY - 1 } else { count };
+        })
+    };
+    let sides = [true, false].into_iter();
+    sides
+        .flat_map(|is_first| [to(is_first, false), to(is_first, true)])
+        .collect()
+}
+
+/// Each fault by itself in a map of two cells, and with a fault of each later number beside it in a map
+/// whose caps alone are too many.
+#[test]
+fn every_list_mark_and_number_in_its_place() {
+    let faults = [shape_faults(), range_faults(), neighbour_faults()];
+    assert_eq!(faults.each_ref().map(Vec::len), [43, 530, 4]);
+    assert_eq!(given(2).plan(), done(2 * 60, 2 * 228));
+    assert_eq!(given(1_092).plan(), done(1_092 * 60, 1_092 * 228));
+    hold_refused(&given(1_093), 4, needs(65_536, 262_144), "1,093 cells");
+    let full = given(10_923);
+    for (level, of_level) in faults.iter().enumerate() {
+        let number = level as u32 + 1;
+        for (what, change) in of_level {
+            let mut alone = given(2);
+            change(&mut alone);
+            hold_refused(&alone, number, needs(120, 456), what);
+            let mut beside = full.clone();
+            for later in &faults[level + 1..] {
+                later[0].1(&mut beside);
+            }
+            change(&mut beside);
+            hold_refused(&beside, number, needs(120, 456), what);
+        }
+    }
+}
+
+/// The ends of the range pass, and so do -0 and the least number above 0, wherever they stand.
+#[test]
+fn the_ends_of_the_range_pass() {
+    for place in 0..numbers(&mut given(2)).len() {
+        for value in WITHIN {
+            let mut map = given(2);
+            *numbers(&mut map)[place] = f32::from_bits(value);
+            let plan = map.plan();
+            let what = format!("{value:08x} at number {place}");
+            assert_eq!(plan.number, 0, "{what}");
+            let mut mesh = Mesh::known(needs(plan.vertices, plan.indices));
+            assert_eq!(map.build(mesh.all()), plan, "{what}");
+        }
     }
 }

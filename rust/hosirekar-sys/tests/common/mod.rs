@@ -1,6 +1,7 @@
 //! What the tests share: lists whose every place is known, and what a call answers.
 #![allow(dead_code)]
 
+pub mod faults;
 pub mod jobs;
 
 use hosirekar_sys::{CAnswer, CCounts};

@@ -1,0 +1,87 @@
+/* Each way in which a struct goes over by value, called from C and from C++. All numbers are exact. */
+#include "hosirekar.h"
+#include <stdio.h>
+
+static void print_answer(const char *what, HosirekarAnswer answer) {
+    printf("%s: %u, %lu and %lu\n", what, answer.number, (unsigned long)answer.vertices,
+           (unsigned long)answer.indices);
+}
+
+static void print_floats(const char *what, const float *floats, int count) {
+    printf("%s:", what);
+    for (int k = 0; k < count; k++)
+        printf(" %g", floats[k]);
+    printf("\n");
+}
+
+static void call_numbers(void) {
+    HosirekarUvOptions options = {{2, 3}, {0.25f, 0.5f}, {1, 2}, {3, 10}, {true, false}};
+    HosirekarVec2 uv = {0.25f, 0.5f}, point = {0, -4};
+    printf("root: %g\n", hosirekar_root(6.25f));
+    printf("fused: %g\n", hosirekar_fused(3, 5, 7));
+    uv = hosirekar_alter_uv(options, uv);
+    printf("altered: %g %g\n", uv.x, uv.y);
+    uv = hosirekar_wrap_uv(point);
+    printf("wrapped: %g %g\n", uv.x, uv.y);
+}
+
+static const float corners[12] = {2, 0, 1, 2, -1, 2, -2, 0, -1, -2, 1, -2};
+
+static void call_jobs(void) {
+    static float pairs[24], vertices[36], normals[36], uvs[24];
+    static uint16_t indices[48];
+    HosirekarChoice given = {true, 255}, absent = {false, 9};
+    HosirekarVec3 none = {0, 0, 0};
+    HosirekarPlacement moved = {{false, none}, {false, none, none, none}, {true, {5, 6, 7}}};
+    HosirekarCheapColumn cheap = {{0.5f, -0.25f}, 3};
+    HosirekarPlane plane = {{10, 20}, 255, moved};
+    HosirekarColumn column = {
+        8, {true, 3}, {given, absent, given, absent, given, absent}, given, absent, {1, 2}, moved};
+    HosirekarHeightMap map = {given, absent, false, 1, {true, 0, 1}, {true, {1, 2}}, moved};
+    print_answer("column", hosirekar_column_plan(column, pairs, 24, corners, 12, NULL, 0, NULL, 0));
+    print_answer("cheap column", hosirekar_cheap_column_build(cheap, corners, 12, vertices, 36, normals, 36,
+                                                              uvs, 24, indices, 48));
+    print_floats("its top", vertices, 3);
+    print_floats("its normal", normals, 3);
+    print_answer("no face", hosirekar_plane_face(plane, corners, 12, NULL, 0, NULL, 0, 1, vertices, 36,
+                                                 normals, 36, uvs, 24, indices, 48));
+    print_answer("plane", hosirekar_plane_face(plane, corners, 12, NULL, 0, NULL, 0, 0, vertices, 36,
+                                               normals, 36, uvs, 24, indices, 48));
+    print_floats("its corner", vertices, 3);
+    print_answer("map", hosirekar_heightmap_plan(map, NULL, 0, NULL, 0, NULL, 0, NULL, 0, corners, 12,
+                                                 NULL, 0, NULL, 0));
+    map.placement.offset.value.z = 1000001;
+    print_answer("too far", hosirekar_heightmap_plan(map, NULL, 0, NULL, 0, NULL, 0, NULL, 0, corners, 12,
+                                                     NULL, 0, NULL, 0));
+}
+
+static void call_stored(void) {
+    float vertices[18] = {0, 0, 0, 3, 0, 0, 0, 6, 9}, normals[18] = {0}, uvs[12] = {0, 0, 3, 0, 0, 6};
+    float from[9] = {1, 2, 1, 4, 5, 1, 5, 3, 2}, up[9] = {0}, flat[6] = {0};
+    uint16_t indices[6] = {0, 1, 2}, order[3] = {2, 1, 0};
+    HosirekarCounts one = {3, 3}, two = {2, 2};
+    HosirekarVec3 times = {2, 3, 4}, plus = {1, 10, 100};
+    HosirekarVec2 scale = {2, 0.5f};
+    print_answer("scale", hosirekar_scale(one, times, vertices, 18, normals, 18, uvs, 12, indices, 6));
+    print_answer("offset", hosirekar_offset(two, plus, vertices, 18, normals, 18, uvs, 12, indices, 6));
+    print_floats("vertices", vertices, 9);
+    print_answer("texture",
+                 hosirekar_texture_scale(one, scale, vertices, 18, normals, 18, uvs, 12, indices, 6));
+    HosirekarUvCentroid uv = hosirekar_uv_centroid(one, vertices, 18, normals, 18, uvs, 12, indices, 6);
+    print_answer("uv centroid", uv.answer);
+    printf("it: %g %g\n", uv.centroid.x, uv.centroid.y);
+    print_answer("merge", hosirekar_merge(one, from, 9, up, 9, flat, 6, order, 3, one, vertices, 18, normals,
+                                          18, uvs, 12, indices, 6));
+    printf("indices: %u %u %u\n", indices[3], indices[4], indices[5]);
+    HosirekarCounts all = {6, 6};
+    HosirekarCentroid middle = hosirekar_centroid(all, vertices, 18, normals, 18, uvs, 12, indices, 6);
+    print_answer("centroid", middle.answer);
+    printf("it: %g %g %g\n", middle.centroid.x, middle.centroid.y, middle.centroid.z);
+}
+
+int main(void) {
+    call_numbers();
+    call_jobs();
+    call_stored();
+    return 0;
+}

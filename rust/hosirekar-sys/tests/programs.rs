@@ -1,0 +1,65 @@
+//! Programs over the header, compiled, linked with the archive and run. Cargo runs a test in its package's
+//! folder, where they are read.
+
+#[path = "common/compiler.rs"]
+mod compiler;
+use compiler::{Language, C, CPP};
+
+/// Two caps, six walls of the higher cell and five of the lower; then the ends of the wall between them.
+const MAP: &str = "\
+answer 0: 56 vertices, 90 indices
+1 1 2
+1 2 2
+2 2 0
+2 1 0
+as in the whole map
+";
+
+/// Worked out by hand.
+const CALLS: &str = "\
+root: 2.5
+fused: 22
+altered: 4.5 18
+wrapped: 0.5 0
+column: 0, 42 and 66
+cheap column: 0, 12 and 48
+its top: 2 3 0
+its normal: 1.5 0 0.25
+no face: 6, 0 and 0
+plane: 0, 6 and 12
+its corner: 17 6 27
+map: 0, 0 and 0
+too far: 2, 0 and 0
+scale: 0, 3 and 3
+offset: 0, 2 and 2
+vertices: 1 10 100 7 10 100 0 18 36
+texture: 0, 3 and 3
+uv centroid: 0, 3 and 3
+it: 2 1
+merge: 0, 6 and 6
+indices: 5 4 3
+centroid: 0, 6 and 6
+it: 3 8 40
+";
+
+fn hold_printed(language: &Language, path: &str, wanted: &str) {
+    let program = std::fs::read_to_string(path).unwrap_or_else(|why| panic!("{path}: {why}"));
+    if let Some(printed) = language.run(path, &program) {
+        assert_eq!(printed, wanted, "{path}");
+    }
+}
+
+#[test]
+fn the_example_builds_a_map_and_one_face_of_it() {
+    hold_printed(&C, "examples/map.c", MAP);
+}
+
+#[test]
+fn c_hands_every_struct_over_as_the_archive_takes_it() {
+    hold_printed(&C, "tests/calls.c", CALLS);
+}
+
+#[test]
+fn cpp_hands_every_struct_over_as_the_archive_takes_it() {
+    hold_printed(&CPP, "tests/calls.c", CALLS);
+}
