@@ -5,8 +5,7 @@ use crate::placement::{placement, vec2};
 use crate::refusal::answered;
 use crate::{Counts, FaceOptions, Job, Mesh, MeshBuffers, Refusal};
 use hosirekar_sys::{
-    hosirekar_column_build, hosirekar_column_face, hosirekar_column_plan, CChoice, CColumn,
-    CSubdivisions,
+    hosirekar_column_build, hosirekar_column_face, hosirekar_column_plan, CColumn, CSubdivisions,
 };
 
 /// A hexagonal column that stands on height 0, as hexx's `ColumnMeshBuilder` makes it.
@@ -78,17 +77,6 @@ impl Default for Column {
     }
 }
 
-/// A face that may be there, its options added to the table.
-fn choice(options: &Option<FaceOptions>, table: &mut Table) -> CChoice {
-    match options {
-        None => CChoice::default(),
-        Some(options) => CChoice {
-            given: true,
-            option: table.add(options),
-        },
-    }
-}
-
 impl Column {
     /// All faces, each side from a corner to the next, at (0, 0).
     ///
@@ -112,9 +100,9 @@ impl Column {
                 given: self.subdivisions.is_some(),
                 number: self.subdivisions.unwrap_or_default(),
             },
-            sides: std::array::from_fn(|side| choice(&self.sides[side], &mut table)),
-            top: choice(&self.top, &mut table),
-            bottom: choice(&self.bottom, &mut table),
+            sides: std::array::from_fn(|side| table.choice(&self.sides[side])),
+            top: table.choice(&self.top),
+            bottom: table.choice(&self.bottom),
             position: vec2(self.position),
             placement: placement(self.scale, self.rotation, self.offset),
         };
@@ -127,12 +115,15 @@ impl Column {
     }
 }
 
+/// Six sides and two caps may have options of their own.
+const FACES: usize = 8;
+
 /// A column as the archive takes it.
 struct Call<'a> {
     job: CColumn,
     ends: &'a [f32],
     corners: &'a [f32],
-    table: Table,
+    table: Table<FACES>,
 }
 
 impl Call<'_> {

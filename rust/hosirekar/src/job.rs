@@ -2,7 +2,12 @@
 
 use crate::{Counts, Mesh, MeshBuffers, Refusal};
 
-/// A [`Plane`](crate::Plane), a [`Column`](crate::Column) or a [`CheapColumn`](crate::CheapColumn).
+/// A [`Plane`](crate::Plane), a [`Column`](crate::Column), a [`CheapColumn`](crate::CheapColumn) or a
+/// [`HeightMap`](crate::HeightMap).
+///
+/// Every call on a height map may also be refused for its lists ([`Shape`](Refusal::Shape)), which
+/// comes before all else, and for a neighbour that is no cell ([`Neighbour`](Refusal::Neighbour)),
+/// which comes after the [`Range`](Refusal::Range).
 pub trait Job {
     /// How many vertices and indices the whole mesh has.
     ///

@@ -1,7 +1,8 @@
-//! Meshes of hexagon planes and columns, in the manner of hexx, over functions that are proved.
+//! Meshes of hexagon planes, columns and height maps, in the manner of hexx, over functions that are
+//! proved.
 //!
-//! A job says what is wanted: a [`Plane`], a [`Column`] or a [`CheapColumn`]. All that it can be
-//! asked stands in the trait [`Job`]: [`plan`](Job::plan) counts without a mesh,
+//! A job says what is wanted: a [`Plane`], a [`Column`], a [`CheapColumn`] or a [`HeightMap`]. All
+//! that it can be asked stands in the trait [`Job`]: [`plan`](Job::plan) counts without a mesh,
 //! [`build`](Job::build) makes one, [`build_into`](Job::build_into) writes it to buffers that you
 //! lend, and [`build_face`](Job::build_face) writes one face of it.
 //!
@@ -48,17 +49,19 @@
 //!
 //! | here | in hexx |
 //! |---|---|
-//! | [`Plane::corners`], [`Column::cap_corners`] | `layout.center_aligned_hex_corners()` |
+//! | [`Plane::corners`], [`Column::cap_corners`], [`HeightMap::cap_corners`] | `layout.center_aligned_hex_corners()` |
 //! | [`Column::side_ends`] | `layout.hex_edge_corners(Hex::ZERO)`, of a layout with its origin at zero |
+//! | [`Cell::side_ends`], [`Cell::position`] | `layout.hex_edge_corners(hex)`, `layout.hex_to_world_pos(hex)`, of a layout with its origin at zero |
 //! | [`Plane::position`], [`Column::position`] | `layout.hex_to_world_pos(pos)`; after `center_aligned()`, of a layout with its origin at zero |
 //! | [`CheapColumn::corners`], [`CheapColumn::centre`] | `layout.hex_corners(hex)`, `layout.hex_to_world_pos(hex)` |
 //! | [`Plane::options`] | `face_options` |
 //! | [`Column::sides`], [`Column::top`], [`Column::bottom`] | `sides_options`, and the `face_options` of `top_face` and `bottom_face` |
-//! | [`Plane::rotation`], [`Column::rotation`] | `Mat3::from_quat(rotation).transpose().to_cols_array_2d()` |
+//! | [`Plane::rotation`], [`Column::rotation`], [`HeightMap::rotation`] | `Mat3::from_quat(rotation).transpose().to_cols_array_2d()` |
 #![forbid(unsafe_code)]
 
 mod cheap_column;
 mod column;
+mod heightmap;
 mod job;
 mod mesh;
 mod options;
@@ -68,6 +71,7 @@ mod refusal;
 
 pub use cheap_column::CheapColumn;
 pub use column::Column;
+pub use heightmap::{Cell, CellOptions, Fringe, HeightMap, ReadyHeightMap};
 pub use job::Job;
 pub use mesh::{Counts, Mesh, MeshBuffers};
 pub use options::{FaceOptions, InsetOptions, InsetScaleMode, Rect, UVOptions};

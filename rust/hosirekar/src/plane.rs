@@ -74,7 +74,7 @@ impl Plane {
 struct Call<'a> {
     job: CPlane,
     corners: &'a [f32],
-    table: Table,
+    table: Table<1>,
 }
 
 impl Call<'_> {

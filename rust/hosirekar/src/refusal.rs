@@ -16,7 +16,8 @@ use std::fmt;
 #[derive(Clone, Copy, Debug, PartialEq, Eq, Hash)]
 #[repr(u8)]
 pub enum Refusal {
-    /// A list has the wrong length: a mesh has not one normal and one uv for each vertex.
+    /// A list has the wrong length: a mesh has not one normal and one uv for each vertex, or a height
+    /// map not one entry a cell, more than 65,536 cells, or more than 64 different options.
     Shape = 1,
     /// A number is not finite, or above 1,000,000 either way.
     Range = 2,
@@ -64,7 +65,7 @@ impl fmt::Display for Refusal {
     fn fmt(&self, f: &mut fmt::Formatter<'_>) -> fmt::Result {
         f.write_str(match self {
             Refusal::Shape => {
-                "the lists of a mesh do not fit together: give each vertex one normal and one uv"
+                "lists do not fit together: give each vertex of a mesh one normal and one uv, and a map at most 65,536 cells, an entry for each of them, and 64 options"
             }
             Refusal::Range => {
                 "a number is out of range: make each finite and at most 1,000,000 either way"

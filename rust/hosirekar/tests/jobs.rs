@@ -4,8 +4,9 @@ mod common;
 use common::*;
 use hosirekar::*;
 use hosirekar_sys::{
-    hosirekar_cheap_column_build, hosirekar_column_build, hosirekar_plane_build, CCheapColumn,
-    CChoice, CChoice3, CColumn, CPlacement, CPlane, CSubdivisions, CTurn, CVec2, CVec3,
+    hosirekar_cheap_column_build, hosirekar_column_build, hosirekar_heightmap_build,
+    hosirekar_plane_build, CCheapColumn, CChoice, CChoice3, CColumn, CHeightMap, COrigin,
+    CPlacement, CPlane, CRange, CSubdivisions, CTurn, CVec2, CVec3,
 };
 
 fn floats<const N: usize>(rows: &[[u32; N]]) -> Vec<u32> {
@@ -144,18 +145,20 @@ fn faces_in_any_order_with_repeats_are_the_whole() {
     faces_in_any_order_are_the_whole(&some, 7);
     faces_in_any_order_are_the_whole(&plane(), 1);
     faces_in_any_order_are_the_whole(&cheap_column(), 1);
+    // Of eighteen sides, seven are no higher than what lies beyond them.
+    faces_in_any_order_are_the_whole(&heightmap(), 3 + 11);
+    faces_in_any_order_are_the_whole(&heightmap().ready(), 3 + 11);
 }
 
-#[test]
-fn a_face_writes_its_own_places_alone() {
-    let job = column();
+/// What a face leaves of a mesh that was filled with something else is told by what is still there.
+fn a_face_writes_its_own_places(job: &impl Job, faces: usize) {
     let counts = job.plan().unwrap();
     let (whole, empty) = (
         job.build().unwrap(),
         filled(counts.vertices, counts.indices),
     );
     let (mut vertex, mut index) = (0, 0);
-    for face in 0..20 {
+    for face in 0..faces {
         let mut mesh = empty.clone();
         job.build_face(face, &mut mesh.buffers()).unwrap();
         let written = mesh.vertices.iter().filter(|p| **p != [-77.0; 3]).count();
@@ -170,6 +173,12 @@ fn a_face_writes_its_own_places_alone() {
         (vertex, index) = (past, end);
     }
     assert_eq!((vertex, index), (counts.vertices, counts.indices));
+}
+
+#[test]
+fn a_face_writes_its_own_places_alone() {
+    a_face_writes_its_own_places(&column(), 20);
+    a_face_writes_its_own_places(&heightmap(), 14);
 }
 
 fn what_lies_past_the_counts_stays(job: &impl Job) {
@@ -197,6 +206,7 @@ fn longer_lists_keep_what_lies_past_the_counts() {
     what_lies_past_the_counts_stays(&plane());
     what_lies_past_the_counts_stays(&column());
     what_lies_past_the_counts_stays(&cheap_column());
+    what_lies_past_the_counts_stays(&heightmap());
 }
 
 fn vec2([x, y]: [f32; 2]) -> CVec2 {
@@ -319,6 +329,78 @@ fn every_field_of_a_cheap_column_arrives_in_its_place() {
     );
     assert_eq!((answer.vertices, answer.indices), (12, 48));
     assert_eq!(bits(&cheap_column().build().unwrap()), bits(&mesh));
+}
+
+/// The cells of [`heightmap`] as the archive documents them: height, position, and the ends of sides.
+fn cells() -> Vec<f32> {
+    let of = |height: f32, x: f32, z: f32| {
+        let mut numbers = vec![height, x, z];
+        for side in 0..6 {
+            let ([a, b], [c, d]) = (CORNERS[side], CORNERS[(side + 1) % 6]);
+            numbers.extend([x + a, z + b, x + c, z + d]);
+        }
+        numbers
+    };
+    [of(8.0, 0.0, 0.0), of(5.0, 3.0, 2.0), of(6.0, 0.0, 4.0)].concat()
+}
+
+#[test]
+fn every_field_of_a_map_arrives_in_its_place() {
+    let choice = |option| CChoice {
+        given: true,
+        option,
+    };
+    let job = CHeightMap {
+        caps: choice(2),
+        sides: choice(0),
+        customs: true,
+        fringe: 2,
+        range: CRange {
+            given: true,
+            min: 1.0,
+            max: 9.0,
+        },
+        origin: COrigin {
+            given: true,
+            at: vec2([80.0, 90.0]),
+        },
+        placement: placement(),
+    };
+    let no = u32::MAX;
+    let neighbours = [
+        [1, 2, no, no, no, no],
+        [no, no, 2, 0, no, no],
+        [no, no, no, no, 0, 1],
+    ];
+    let fringe = [
+        [0.0, 1.0, 2.0, 8.0, 4.0, 5.0],
+        [1.0, 5.0, 2.0, 3.0, 4.0, 9.0],
+        [0.0, 2.0, 6.0, 3.0, 1.0, 1.0],
+    ];
+    let customs = [
+        [3, 1, 255, 2, 255, 255, 4],
+        [255; 7],
+        [255, 255, 5, 255, 255, 6, 7],
+    ];
+    let (numbers, marks) = table();
+    let counts = heightmap().plan().unwrap();
+    let mut mesh = filled(counts.vertices, counts.indices);
+    let answer = hosirekar_heightmap_build(
+        job,
+        &cells(),
+        neighbours.as_flattened(),
+        fringe.as_flattened(),
+        customs.as_flattened(),
+        CORNERS.as_flattened(),
+        &numbers,
+        &marks,
+        mesh.vertices.as_flattened_mut(),
+        mesh.normals.as_flattened_mut(),
+        mesh.uvs.as_flattened_mut(),
+        &mut mesh.indices,
+    );
+    assert_eq!(answer.number, 0);
+    assert_eq!(bits(&heightmap().build().unwrap()), bits(&mesh));
 }
 
 #[test]

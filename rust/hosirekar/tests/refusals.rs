@@ -48,19 +48,48 @@ fn cheap_column_numbers(column: &mut CheapColumn) -> Vec<&mut f32> {
     numbers
 }
 
-/// Each number in turn at its limit, and past it.
-fn every_number_is_tested<J: Job + Copy>(job: J, numbers: fn(&mut J) -> Vec<&mut f32>) {
+/// Every number of a map but its height range, which lends none.
+fn map_numbers(map: &mut HeightMap) -> Vec<&mut f32> {
+    let mut numbers: Vec<&mut f32> = map.cap_corners.as_flattened_mut().iter_mut().collect();
+    for cell in &mut map.cells {
+        numbers.push(&mut cell.height);
+        numbers.extend(&mut cell.position);
+        numbers.extend(cell.side_ends.as_flattened_mut().as_flattened_mut());
+    }
+    if let Fringe::Heights(heights) = &mut map.fringe {
+        numbers.extend(heights.as_flattened_mut());
+    }
+    for own in map.custom_options.iter_mut().flatten() {
+        numbers.extend(own.cap.iter_mut().flat_map(option_numbers));
+        numbers.extend(own.sides.iter_mut().flatten().flat_map(option_numbers));
+    }
+    numbers.extend(map.caps.iter_mut().flat_map(option_numbers));
+    numbers.extend(map.sides.iter_mut().flat_map(option_numbers));
+    numbers.extend(map.origin.as_mut().unwrap());
+    numbers.extend(map.scale.as_mut().unwrap());
+    numbers.extend(map.rotation.as_mut().unwrap().as_flattened_mut());
+    numbers.extend(map.offset.as_mut().unwrap());
+    numbers
+}
+
+/// Each number in turn at its limit, and past it. At the limit a map may have other walls.
+fn every_number_is_tested<J: Job + Clone>(
+    job: J,
+    counts_stay: bool,
+    numbers: fn(&mut J) -> Vec<&mut f32>,
+) {
     let counts = job.plan().unwrap();
     let fresh = filled(counts.vertices, counts.indices);
     let past = f32::from_bits(1_000_000f32.to_bits() + 1);
     for k in 0..numbers(&mut job.clone()).len() {
         let with = |x| {
-            let mut changed = job;
+            let mut changed = job.clone();
             *numbers(&mut changed)[k] = x;
             changed
         };
         for x in [1_000_000.0, -1_000_000.0, -0.0] {
-            assert_eq!(with(x).plan(), Ok(counts));
+            let planned = with(x).plan().unwrap();
+            assert!(planned == counts || !counts_stay);
         }
         for x in [past, -past, f32::INFINITY, f32::NEG_INFINITY, f32::NAN] {
             let (job, mut mesh) = (with(x), fresh.clone());
@@ -76,16 +105,23 @@ fn every_number_is_tested<J: Job + Copy>(job: J, numbers: fn(&mut J) -> Vec<&mut
 
 #[test]
 fn every_number_of_a_job_is_tested() {
-    every_number_is_tested(plane(), plane_numbers);
-    every_number_is_tested(column(), column_numbers);
-    every_number_is_tested(cheap_column(), cheap_column_numbers);
+    every_number_is_tested(plane(), true, plane_numbers);
+    every_number_is_tested(column(), true, column_numbers);
+    every_number_is_tested(cheap_column(), true, cheap_column_numbers);
+    every_number_is_tested(heightmap(), false, map_numbers);
+    let off = HeightMap {
+        caps: None,
+        sides: None,
+        ..heightmap()
+    };
+    every_number_is_tested(off, true, map_numbers);
     let bare = Column {
         sides: [None; 6],
         top: None,
         bottom: None,
         ..column()
     };
-    every_number_is_tested(bare, column_numbers);
+    every_number_is_tested(bare, true, column_numbers);
 }
 
 #[test]
@@ -134,6 +170,7 @@ fn a_list_one_short_is_refused_and_left_as_it_was() {
     one_short_is_refused(&plane(), 1);
     one_short_is_refused(&column(), 20);
     one_short_is_refused(&cheap_column(), 1);
+    one_short_is_refused(&heightmap(), 14);
 }
 
 #[test]
@@ -307,6 +344,7 @@ fn lists_of_any_lengths_are_answered() {
                     every_job_is_answered(&mesh, &plane());
                     every_job_is_answered(&mesh, &column());
                     every_job_is_answered(&mesh, &cheap_column());
+                    every_job_is_answered(&mesh, &heightmap());
                 }
             }
         }
