@@ -17,31 +17,27 @@ use std::ops::RangeInclusive;
 /// neighbour, or of the [`fringe`](HeightMap::fringe) where there is no neighbour. All is scaled,
 /// then turned, then moved by the offset and by the origin, each if given.
 ///
-/// ```
-/// use hosirekar::{Cell, Fringe, HeightMap, Job};
+/// [`from_heights`](HeightMap::from_heights) makes the cells from axial coordinates and a
+/// [`Layout`](crate::layout::Layout).
 ///
-/// let corners = [[2.0, 0.0], [1.0, 2.0], [-1.0, 2.0], [-2.0, 0.0], [-1.0, -2.0], [1.0, -2.0]];
-/// let cell = |height, [x, z]: [f32; 2]| {
-///     let corner = |k: usize| [x + corners[k % 6][0], z + corners[k % 6][1]];
-///     let side_ends = std::array::from_fn(|side| [corner(side), corner(side + 1)]);
-///     Cell { height, position: [x, z], side_ends, ..Cell::default() }
-/// };
-/// let mut map = HeightMap::new(corners, vec![cell(3.0, [0.0, 0.0]), cell(1.0, [3.0, 2.0])]);
-/// map.cells[0].neighbours[0] = Some(1);
-/// map.cells[1].neighbours[3] = Some(0);
-/// // Two caps, and the wall between them.
-/// assert_eq!(map.build()?.vertices.len(), 6 + 4 + 6);
+/// ```
+/// use hosirekar::{layout::Layout, Fringe, HeightMap, Job};
+///
+/// let heights = [((0, 0), 3.0), ((1, 0), 1.0), ((0, 1), 2.0)];
+/// let mut map = HeightMap::from_heights(&Layout::flat(), heights)?;
+/// // Three caps, and a wall between each two of them.
+/// assert_eq!(map.build()?.vertices.len(), 3 * 6 + 3 * 4);
 /// // With a height of 0 beyond the edge there are walls all about.
-/// map.fringe = Fringe::Heights(vec![[0.0; 6]; 2]);
-/// assert_eq!(map.build()?.vertices.len(), 6 + 6 * 4 + 6 + 5 * 4);
-/// # Ok::<(), hosirekar::Refusal>(())
+/// map.fringe = Fringe::Heights(vec![[0.0; 6]; 3]);
+/// assert_eq!(map.build()?.vertices.len(), 3 * 6 + (3 + 12) * 4);
+/// # Ok::<(), Box<dyn std::error::Error>>(())
 /// ```
 ///
 /// # From hexx
 ///
 /// | in hexx | here |
 /// |---|---|
-/// | `HeightMapMeshBuilder::new(&layout, &map)` | [`HeightMap::new`] |
+/// | `HeightMapMeshBuilder::new(&layout, &map)` | [`HeightMap::from_heights`], or [`HeightMap::new`] with cells of your own |
 /// | `with_height_range(0.0..=5.0)` | `height_range: Some(0.0..=5.0)` |
 /// | `with_scale(scale)`, `with_offset(offset)` | `scale: Some(scale.into())`, `offset: Some(offset.into())` |
 /// | `with_rotation(rotation)` | `rotation: Some(Mat3::from_quat(rotation).transpose().to_cols_array_2d())` |
@@ -49,7 +45,7 @@ use std::ops::RangeInclusive;
 /// | `with_cap_options(options)`, `with_side_options(options)` | `caps: Some(options)`, `sides: Some(options)` |
 /// | `with_cap_uv_options(uv)`, `with_cap_inset_options(inset)` | the `uv` and the `insetting` of `caps` |
 /// | `with_custom_cap_options(f)`, `with_custom_sides_options(f)` | `custom_options: Some(list)`, a [`CellOptions`] for each cell |
-/// | `with_fringe_heights(f)` | `fringe: Fringe::Heights(list)`, six heights for each cell |
+/// | `with_fringe_heights(f)` | `fringe: Fringe::Heights(list)`, for each cell `f` of its six [`neighbours`](crate::layout::neighbours) |
 /// | `with_default_height(height)` | `fringe: Fringe::Heights(vec![[height; 6]; cells])` |
 /// | `center_aligned()` | `origin: None` |
 /// | `build()` | [`build`](Job::build) |
@@ -196,17 +192,16 @@ impl HeightMap {
     /// [`build_face`](Job::build_face) of a large map copy its cells once.
     ///
     /// ```
-    /// use hosirekar::{Cell, HeightMap, Job, Mesh};
+    /// use hosirekar::{layout::Layout, HeightMap, Job, Mesh};
     ///
-    /// let corners = [[2.0, 0.0], [1.0, 2.0], [-1.0, 2.0], [-2.0, 0.0], [-1.0, -2.0], [1.0, -2.0]];
-    /// let map = HeightMap::new(corners, vec![Cell::default(); 3]);
+    /// let map = HeightMap::from_heights(&Layout::flat(), [((0, 0), 3.0), ((1, 0), 1.0)])?;
     /// let ready = map.ready();
     /// let mut mesh = Mesh::zeroed(ready.plan()?)?;
     /// for face in [2, 0, 1] {
     ///     ready.build_face(face, &mut mesh.buffers())?;
     /// }
     /// assert_eq!(mesh, map.build()?);
-    /// # Ok::<(), hosirekar::Refusal>(())
+    /// # Ok::<(), Box<dyn std::error::Error>>(())
     /// ```
     #[must_use]
     pub fn ready(&self) -> ReadyHeightMap<'_> {

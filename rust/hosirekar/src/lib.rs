@@ -39,13 +39,13 @@
 //!
 //! # Corners
 //!
-//! No layout of a grid is here: a job is handed its corners, each an x and a z. Planes and columns
-//! take the corners about the middle of the hexagon, centre-aligned, and their position apart. The
-//! cheap column takes the hexagon's own corners, where it stands. The example `grid` has a small
-//! layout for flat and pointy hexagons.
+//! A job is handed its corners, each an x and a z. Planes and columns take the corners about the middle
+//! of the hexagon, centre-aligned, and their position apart. The cheap column takes the hexagon's own
+//! corners, where it stands. The cells of a height map have the ends of their sides where they stand
+//! before the origin is added. The module [`layout`] has all of these for flat and pointy hexagons.
 //!
-//! A user of hexx has them from a `HexLayout`, a point `p` as `[p.x, p.y]`, and the rest from what
-//! the builder was given:
+//! A user of hexx has them from a `HexLayout` too, a point `p` as `[p.x, p.y]`, and the rest from what
+//! the builder was given ([`HeightMap`] has a table of its own):
 //!
 //! | here | in hexx |
 //! |---|---|
@@ -63,6 +63,7 @@ mod cheap_column;
 mod column;
 mod heightmap;
 mod job;
+pub mod layout;
 mod mesh;
 mod options;
 mod placement;
