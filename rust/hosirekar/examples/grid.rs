@@ -41,13 +41,13 @@ fn grid(layout: &Layout) -> Result<Mesh, hosirekar::Refusal> {
     let mut mesh = ground.build()?;
     for (k, hex) in (1u8..).zip(HEXES) {
         let height = f32::from(k) / 2.0;
-        let built = if hex == (0, 0) {
+        if hex == (0, 0) {
             let cheap = CheapColumn {
                 corners: layout.corners(hex),
                 centre: layout.position(hex),
                 height,
             };
-            cheap.build()?
+            mesh.add(&cheap)?;
         } else {
             let column = Column {
                 top: Some(rim),
@@ -55,9 +55,8 @@ fn grid(layout: &Layout) -> Result<Mesh, hosirekar::Refusal> {
                 position: layout.position(hex),
                 ..Column::new(corners, height)
             };
-            column.build()?
-        };
-        mesh.merge_with(&built)?;
+            mesh.add(&column)?;
+        }
     }
     Ok(mesh)
 }

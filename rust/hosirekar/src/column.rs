@@ -1,5 +1,6 @@
 //! A column.
 
+use crate::job::job_made_ready;
 use crate::options::Table;
 use crate::placement::{placement, vec2};
 use crate::refusal::answered;
@@ -92,7 +93,7 @@ impl Column {
         }
     }
 
-    fn call(&self) -> Call<'_> {
+    fn ready(&self) -> Ready<'_> {
         let mut table = Table::default();
         let job = CColumn {
             height: self.height,
@@ -106,7 +107,7 @@ impl Column {
             position: vec2(self.position),
             placement: placement(self.scale, self.rotation, self.offset),
         };
-        Call {
+        Ready {
             job,
             ends: self.side_ends.as_flattened().as_flattened(),
             corners: self.cap_corners.as_flattened(),
@@ -119,14 +120,14 @@ impl Column {
 const FACES: usize = 8;
 
 /// A column as the archive takes it.
-struct Call<'a> {
+struct Ready<'a> {
     job: CColumn,
     ends: &'a [f32],
     corners: &'a [f32],
     table: Table<FACES>,
 }
 
-impl Call<'_> {
+impl Job for Ready<'_> {
     fn plan(&self) -> Result<Counts, Refusal> {
         answered(hosirekar_column_plan(
             self.job,
@@ -137,7 +138,7 @@ impl Call<'_> {
         ))
     }
 
-    fn build(&self, to: &mut MeshBuffers<'_>) -> Result<Counts, Refusal> {
+    fn build_into(&self, to: &mut MeshBuffers<'_>) -> Result<Counts, Refusal> {
         answered(hosirekar_column_build(
             self.job,
             self.ends,
@@ -150,25 +151,14 @@ impl Call<'_> {
             to.indices,
         ))
     }
-}
-
-impl Job for Column {
-    fn plan(&self) -> Result<Counts, Refusal> {
-        self.call().plan()
-    }
-
-    fn build_into(&self, to: &mut MeshBuffers<'_>) -> Result<Counts, Refusal> {
-        self.call().build(to)
-    }
 
     fn build_face(&self, face: usize, to: &mut MeshBuffers<'_>) -> Result<Counts, Refusal> {
-        let call = self.call();
         answered(hosirekar_column_face(
-            call.job,
-            call.ends,
-            call.corners,
-            call.table.numbers(),
-            call.table.marks(),
+            self.job,
+            self.ends,
+            self.corners,
+            self.table.numbers(),
+            self.table.marks(),
             face,
             to.vertices.as_flattened_mut(),
             to.normals.as_flattened_mut(),
@@ -176,11 +166,6 @@ impl Job for Column {
             to.indices,
         ))
     }
-
-    fn build(&self) -> Result<Mesh, Refusal> {
-        let call = self.call();
-        let mut mesh = Mesh::zeroed(call.plan()?)?;
-        call.build(&mut mesh.buffers())?;
-        Ok(mesh)
-    }
 }
+
+job_made_ready!(Column);

@@ -1,5 +1,6 @@
 //! A height map.
 
+use crate::job::job_made_ready;
 use crate::options::{Table, DEFAULT};
 use crate::placement::{placement, vec2};
 use crate::refusal::answered;
@@ -314,20 +315,4 @@ impl Job for ReadyHeightMap<'_> {
     }
 }
 
-impl Job for HeightMap {
-    fn plan(&self) -> Result<Counts, Refusal> {
-        self.ready().plan()
-    }
-
-    fn build_into(&self, to: &mut MeshBuffers<'_>) -> Result<Counts, Refusal> {
-        self.ready().build_into(to)
-    }
-
-    fn build_face(&self, face: usize, to: &mut MeshBuffers<'_>) -> Result<Counts, Refusal> {
-        self.ready().build_face(face, to)
-    }
-
-    fn build(&self) -> Result<Mesh, Refusal> {
-        self.ready().build()
-    }
-}
+job_made_ready!(HeightMap);

@@ -75,4 +75,42 @@ pub trait Job {
         self.build_into(&mut mesh.buffers())?;
         Ok(mesh)
     }
+
+    /// Appends the whole mesh to another: [`Mesh::add`] says how.
+    ///
+    /// # Errors
+    ///
+    /// [`Shape`](Refusal::Shape) of that mesh, [`Range`](Refusal::Range), [`Limit`](Refusal::Limit).
+    fn add_to(&self, mesh: &mut Mesh) -> Result<Counts, Refusal> {
+        let target = mesh.counts()?;
+        mesh.append(target, self.plan()?, |to| self.build_into(to))
+    }
 }
+
+/// A job whose lists are made ready once for each call on it.
+macro_rules! job_made_ready {
+    ($job:ty) => {
+        impl Job for $job {
+            fn plan(&self) -> Result<Counts, Refusal> {
+                self.ready().plan()
+            }
+
+            fn build_into(&self, to: &mut MeshBuffers<'_>) -> Result<Counts, Refusal> {
+                self.ready().build_into(to)
+            }
+
+            fn build_face(&self, face: usize, to: &mut MeshBuffers<'_>) -> Result<Counts, Refusal> {
+                self.ready().build_face(face, to)
+            }
+
+            fn build(&self) -> Result<Mesh, Refusal> {
+                self.ready().build()
+            }
+
+            fn add_to(&self, mesh: &mut Mesh) -> Result<Counts, Refusal> {
+                self.ready().add_to(mesh)
+            }
+        }
+    };
+}
+pub(crate) use job_made_ready;

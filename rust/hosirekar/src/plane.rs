@@ -1,5 +1,6 @@
 //! A plane.
 
+use crate::job::job_made_ready;
 use crate::options::Table;
 use crate::placement::{placement, vec2};
 use crate::refusal::answered;
@@ -55,14 +56,14 @@ impl Plane {
         }
     }
 
-    fn call(&self) -> Call<'_> {
+    fn ready(&self) -> Ready<'_> {
         let mut table = Table::default();
         let job = CPlane {
             position: vec2(self.position),
             option: table.add(&self.options),
             placement: placement(self.scale, self.rotation, self.offset),
         };
-        Call {
+        Ready {
             job,
             corners: self.corners.as_flattened(),
             table,
@@ -71,13 +72,13 @@ impl Plane {
 }
 
 /// A plane as the archive takes it.
-struct Call<'a> {
+struct Ready<'a> {
     job: CPlane,
     corners: &'a [f32],
     table: Table<1>,
 }
 
-impl Call<'_> {
+impl Job for Ready<'_> {
     fn plan(&self) -> Result<Counts, Refusal> {
         answered(hosirekar_plane_plan(
             self.job,
@@ -87,7 +88,7 @@ impl Call<'_> {
         ))
     }
 
-    fn build(&self, to: &mut MeshBuffers<'_>) -> Result<Counts, Refusal> {
+    fn build_into(&self, to: &mut MeshBuffers<'_>) -> Result<Counts, Refusal> {
         answered(hosirekar_plane_build(
             self.job,
             self.corners,
@@ -99,24 +100,13 @@ impl Call<'_> {
             to.indices,
         ))
     }
-}
-
-impl Job for Plane {
-    fn plan(&self) -> Result<Counts, Refusal> {
-        self.call().plan()
-    }
-
-    fn build_into(&self, to: &mut MeshBuffers<'_>) -> Result<Counts, Refusal> {
-        self.call().build(to)
-    }
 
     fn build_face(&self, face: usize, to: &mut MeshBuffers<'_>) -> Result<Counts, Refusal> {
-        let call = self.call();
         answered(hosirekar_plane_face(
-            call.job,
-            call.corners,
-            call.table.numbers(),
-            call.table.marks(),
+            self.job,
+            self.corners,
+            self.table.numbers(),
+            self.table.marks(),
             face,
             to.vertices.as_flattened_mut(),
             to.normals.as_flattened_mut(),
@@ -124,11 +114,6 @@ impl Job for Plane {
             to.indices,
         ))
     }
-
-    fn build(&self) -> Result<Mesh, Refusal> {
-        let call = self.call();
-        let mut mesh = Mesh::zeroed(call.plan()?)?;
-        call.build(&mut mesh.buffers())?;
-        Ok(mesh)
-    }
 }
+
+job_made_ready!(Plane);
