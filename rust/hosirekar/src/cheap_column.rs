@@ -1,8 +1,9 @@
 //! A cheap column.
 
 use crate::placement::vec2;
+use crate::range::Tested;
 use crate::refusal::answered;
-use crate::{Counts, Job, MeshBuffers, Refusal};
+use crate::{Counts, Job, MeshBuffers, OutOfRange, Refusal};
 use hosirekar_sys::{
     hosirekar_cheap_column_build, hosirekar_cheap_column_face, hosirekar_cheap_column_plan,
     CCheapColumn,
@@ -75,5 +76,9 @@ impl Job for CheapColumn {
             to.uvs.as_flattened_mut(),
             to.indices,
         ))
+    }
+
+    fn out_of_range(&self) -> Option<OutOfRange> {
+        self.stray()
     }
 }

@@ -3,8 +3,9 @@
 use crate::job::job_made_ready;
 use crate::options::Table;
 use crate::placement::{placement, vec2};
+use crate::range::Tested;
 use crate::refusal::answered;
-use crate::{Counts, FaceOptions, Job, Mesh, MeshBuffers, Refusal};
+use crate::{Counts, FaceOptions, Job, Mesh, MeshBuffers, OutOfRange, Refusal};
 use hosirekar_sys::{
     hosirekar_column_build, hosirekar_column_face, hosirekar_column_plan, CColumn, CSubdivisions,
 };

@@ -3,8 +3,9 @@
 use crate::job::job_made_ready;
 use crate::options::{Table, DEFAULT};
 use crate::placement::{placement, vec2};
+use crate::range::Tested;
 use crate::refusal::answered;
-use crate::{Counts, FaceOptions, Job, Mesh, MeshBuffers, Refusal};
+use crate::{Counts, FaceOptions, Job, Mesh, MeshBuffers, OutOfRange, Refusal};
 use hosirekar_sys::{
     hosirekar_heightmap_build, hosirekar_heightmap_face, hosirekar_heightmap_plan, CHeightMap,
     COrigin, CRange,
@@ -312,6 +313,10 @@ impl Job for ReadyHeightMap<'_> {
             to.uvs.as_flattened_mut(),
             to.indices,
         ))
+    }
+
+    fn out_of_range(&self) -> Option<OutOfRange> {
+        self.map.out_of_range()
     }
 }
 

@@ -1,6 +1,6 @@
 //! What every job can be asked.
 
-use crate::{Counts, Mesh, MeshBuffers, Refusal};
+use crate::{Counts, Mesh, MeshBuffers, OutOfRange, Refusal};
 
 /// A [`Plane`](crate::Plane), a [`Column`](crate::Column), a [`CheapColumn`](crate::CheapColumn) or a
 /// [`HeightMap`](crate::HeightMap).
@@ -85,6 +85,15 @@ pub trait Job {
         let target = mesh.counts()?;
         mesh.append(target, self.plan()?, |to| self.build_into(to))
     }
+
+    /// The first of the job's numbers that is out of range, by the order of its fields. Where there is
+    /// one, every call is refused with [`Range`](Refusal::Range), or before it with
+    /// [`Shape`](Refusal::Shape).
+    ///
+    /// A job of your own has none, unless it says so itself.
+    fn out_of_range(&self) -> Option<OutOfRange> {
+        None
+    }
 }
 
 /// A job whose lists are made ready once for each call on it.
@@ -109,6 +118,10 @@ macro_rules! job_made_ready {
 
             fn add_to(&self, mesh: &mut Mesh) -> Result<Counts, Refusal> {
                 self.ready().add_to(mesh)
+            }
+
+            fn out_of_range(&self) -> Option<OutOfRange> {
+                self.stray()
             }
         }
     };

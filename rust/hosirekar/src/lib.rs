@@ -37,6 +37,9 @@
 //! assert_eq!(tall.build(), Err(Refusal::Limit));
 //! ```
 //!
+//! Of a job that is refused for its [`Range`](Refusal::Range), [`out_of_range`](Job::out_of_range) names
+//! the field and the entry.
+//!
 //! # Corners
 //!
 //! A job is handed its corners, each an x and a z. Planes and columns take the corners about the middle
@@ -68,6 +71,7 @@ mod mesh;
 mod options;
 mod placement;
 mod plane;
+mod range;
 mod refusal;
 
 pub use cheap_column::CheapColumn;
@@ -77,4 +81,5 @@ pub use job::Job;
 pub use mesh::{Counts, Mesh, MeshBuffers};
 pub use options::{FaceOptions, InsetOptions, InsetScaleMode, Rect, UVOptions};
 pub use plane::Plane;
+pub use range::OutOfRange;
 pub use refusal::Refusal;

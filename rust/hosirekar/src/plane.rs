@@ -3,8 +3,9 @@
 use crate::job::job_made_ready;
 use crate::options::Table;
 use crate::placement::{placement, vec2};
+use crate::range::Tested;
 use crate::refusal::answered;
-use crate::{Counts, FaceOptions, Job, Mesh, MeshBuffers, Refusal};
+use crate::{Counts, FaceOptions, Job, Mesh, MeshBuffers, OutOfRange, Refusal};
 use hosirekar_sys::{hosirekar_plane_build, hosirekar_plane_face, hosirekar_plane_plan, CPlane};
 
 /// A hexagon whose normal is up, as hexx's `PlaneMeshBuilder` makes it. It is one face.

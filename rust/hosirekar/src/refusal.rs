@@ -19,7 +19,8 @@ pub enum Refusal {
     /// A list has the wrong length: a mesh has not one normal and one uv for each vertex, or a height
     /// map not one entry a cell, more than 65,536 cells, or more than 64 different options.
     Shape = 1,
-    /// A number is not finite, or above 1,000,000 either way.
+    /// A number is not finite, or above 1,000,000 either way. Of a job,
+    /// [`out_of_range`](crate::Job::out_of_range) says which.
     Range = 2,
     /// A neighbour is neither a cell nor none.
     Neighbour = 3,
@@ -68,7 +69,7 @@ impl fmt::Display for Refusal {
                 "lists do not fit together: give each vertex of a mesh one normal and one uv, and a map at most 65,536 cells, an entry for each of them, and 64 options"
             }
             Refusal::Range => {
-                "a number is out of range: make each finite and at most 1,000,000 either way"
+                "a number is out of range: make each finite and at most 1,000,000 either way; out_of_range of the job says which it is"
             }
             Refusal::Neighbour => "a neighbour does not exist: name a cell of the map, or none",
             Refusal::Limit => {

@@ -344,13 +344,13 @@ fn cells() -> Vec<f32> {
     [of(8.0, 0.0, 0.0), of(5.0, 3.0, 2.0), of(6.0, 0.0, 4.0)].concat()
 }
 
-#[test]
-fn every_field_of_a_map_arrives_in_its_place() {
+/// [`heightmap`] as the archive documents it, with the table of the first eight options.
+fn c_heightmap() -> CHeightMap {
     let choice = |option| CChoice {
         given: true,
         option,
     };
-    let job = CHeightMap {
+    CHeightMap {
         caps: choice(2),
         sides: choice(0),
         customs: true,
@@ -365,7 +365,11 @@ fn every_field_of_a_map_arrives_in_its_place() {
             at: vec2([80.0, 90.0]),
         },
         placement: placement(),
-    };
+    }
+}
+
+#[test]
+fn every_field_of_a_map_arrives_in_its_place() {
     let no = u32::MAX;
     let neighbours = [
         [1, 2, no, no, no, no],
@@ -386,7 +390,7 @@ fn every_field_of_a_map_arrives_in_its_place() {
     let counts = heightmap().plan().unwrap();
     let mut mesh = filled(counts.vertices, counts.indices);
     let answer = hosirekar_heightmap_build(
-        job,
+        c_heightmap(),
         &cells(),
         neighbours.as_flattened(),
         fringe.as_flattened(),

@@ -88,12 +88,15 @@ fn every_number_is_tested<J: Job + Clone>(
             changed
         };
         for x in [1_000_000.0, -1_000_000.0, -0.0] {
+            assert_eq!(with(x).out_of_range(), None);
             let planned = with(x).plan().unwrap();
             assert!(planned == counts || !counts_stay);
         }
         for x in [past, -past, f32::INFINITY, f32::NEG_INFINITY, f32::NAN] {
             let (job, mut mesh) = (with(x), fresh.clone());
             assert_eq!(job.plan(), Err(Refusal::Range));
+            let value = job.out_of_range().map(|stray| stray.value.to_bits());
+            assert_eq!(value, Some(x.to_bits()));
             assert!(matches!(job.build(), Err(Refusal::Range)));
             assert_eq!(job.build_into(&mut mesh.buffers()), Err(Refusal::Range));
             // The range is tested before the face's number.
@@ -101,6 +104,128 @@ fn every_number_is_tested<J: Job + Clone>(
             assert_eq!(mesh, fresh);
         }
     }
+}
+
+/// What each number is called where it is out of range, in the order of the list.
+fn names<J: Job + Clone>(job: &J, numbers: fn(&mut J) -> Vec<&mut f32>) -> Vec<String> {
+    let count = numbers(&mut job.clone()).len();
+    let name = |k: usize| {
+        let mut changed = job.clone();
+        *numbers(&mut changed)[k] = f32::INFINITY;
+        changed.out_of_range().unwrap().field
+    };
+    (0..count).map(name).collect()
+}
+
+fn all_differ(names: &[String]) -> bool {
+    let mut sorted = names.to_vec();
+    sorted.sort();
+    sorted.windows(2).all(|two| two[0] != two[1])
+}
+
+#[test]
+fn a_number_of_a_plane_out_of_range_is_named() {
+    let plane = names(&plane(), plane_numbers);
+    assert!(all_differ(&plane));
+    let some = [0, 5, 13, 14, 17, 18, 21, 22, 23, 25, 26, 34, 37].map(|k| plane[k].as_str());
+    let wanted = [
+        "corners[0][0]",
+        "corners[2][1]",
+        "position[1]",
+        "options.uv.scale_factor[0]",
+        "options.uv.offset[1]",
+        "options.uv.rect.min[0]",
+        "options.uv.rect.max[1]",
+        "options.insetting.scale",
+        "scale[0]",
+        "scale[2]",
+        "rotation[0][0]",
+        "rotation[2][2]",
+        "offset[2]",
+    ];
+    assert_eq!(some, wanted);
+}
+
+#[test]
+fn a_number_of_a_column_out_of_range_is_named() {
+    let column = names(&column(), column_numbers);
+    assert!(all_differ(&column));
+    let some = [0, 7, 23, 24, 36, 37, 53].map(|k| column[k].as_str());
+    let wanted = [
+        "side_ends[0][0][0]",
+        "side_ends[1][1][1]",
+        "side_ends[5][1][1]",
+        "height",
+        "cap_corners[5][1]",
+        "sides[0].uv.scale_factor[0]",
+        "sides[1].insetting.scale",
+    ];
+    assert_eq!(some, wanted);
+    for name in ["top.uv.offset[0]", "bottom.insetting.scale", "position[0]"] {
+        assert!(column.iter().any(|own| own == name));
+    }
+    let cheap = names(&cheap_column(), cheap_column_numbers);
+    assert!(all_differ(&cheap));
+    assert_eq!(
+        cheap[11..],
+        ["corners[5][1]", "centre[0]", "centre[1]", "height"]
+    );
+}
+
+#[test]
+fn a_number_of_a_map_out_of_range_is_named() {
+    let map = names(&heightmap(), map_numbers);
+    assert!(all_differ(&map));
+    let some = [11, 12, 14, 15, 38, 39, 92, 93, 110, 111].map(|k| map[k].as_str());
+    let wanted = [
+        "cap_corners[5][1]",
+        "cells[0].height",
+        "cells[0].position[1]",
+        "cells[0].side_ends[0][0][0]",
+        "cells[0].side_ends[5][1][1]",
+        "cells[1].height",
+        "cells[2].side_ends[5][1][1]",
+        "fringe[0][0]",
+        "fringe[2][5]",
+        "custom_options[0].cap.uv.scale_factor[0]",
+    ];
+    assert_eq!(some, wanted);
+    for name in [
+        "custom_options[2].sides[4].insetting.scale",
+        "caps.uv.rect.max[0]",
+        "sides.uv.offset[1]",
+        "origin[0]",
+        "scale[1]",
+        "rotation[1][2]",
+        "offset[0]",
+    ] {
+        assert!(map.iter().any(|own| own == name), "{name}");
+    }
+    for (range, name) in [
+        (f32::NAN..=1.0, "height_range.start"),
+        (0.0..=2e6, "height_range.end"),
+    ] {
+        let map = HeightMap {
+            height_range: Some(range),
+            ..heightmap()
+        };
+        assert_eq!(map.out_of_range().unwrap().field, name);
+        assert_eq!(map.ready().out_of_range().unwrap().field, name);
+    }
+}
+
+#[test]
+fn what_is_not_given_is_not_out_of_range() {
+    let mut map = heightmap();
+    map.caps.as_mut().unwrap().uv.offset[0] = f32::NAN;
+    assert_eq!(map.out_of_range().unwrap().field, "caps.uv.offset[0]");
+    map.caps = None;
+    assert_eq!((map.out_of_range(), map.plan().err()), (None, None));
+    assert_eq!(Boast(Counts::default()).out_of_range(), None);
+    let mut stray = heightmap();
+    stray.cells[2].height = -2_000_000.5;
+    let words = "cells[2].height is -2000000.5: make it finite and at most 1,000,000 either way";
+    assert_eq!(stray.out_of_range().unwrap().to_string(), words);
 }
 
 #[test]
