@@ -7,20 +7,32 @@
 //! lend, and [`build_face`](Job::build_face) writes one face of it.
 //!
 //! ```
-//! use hosirekar::{Column, Counts, FaceOptions, InsetOptions, Job, Refusal};
+//! use hosirekar::{layout::Layout, Counts, FaceOptions, Fringe, HeightMap, InsetOptions, Job};
 //!
-//! fn main() -> Result<(), Refusal> {
-//!     // Corners about the middle of the hexagon, x and z.
-//!     let corners = [[2.0, 0.0], [1.0, 2.0], [-1.0, 2.0], [-2.0, 0.0], [-1.0, -2.0], [1.0, -2.0]];
-//!     let inset = InsetOptions { scale: 0.2, keep_inner_face: true, ..Default::default() };
-//!     let top = Some(FaceOptions { insetting: Some(inset), ..Default::default() });
-//!     let column = Column { top, bottom: None, position: [10.0, 0.0], ..Column::new(corners, 3.0) };
-//!     assert_eq!(column.plan()?, Counts { vertices: 36, indices: 84 });
-//!     let mut mesh = column.build()?;
-//!     mesh.merge_with(&Column { position: [0.0, 0.0], ..column }.build()?)?;
-//!     assert_eq!(mesh.centroid()?, [5.0, 2.0, 0.0]);
-//!     Ok(())
-//! }
+//! let heights = [((0, 0), 4.0), ((1, 0), 3.0), ((0, 1), 2.0), ((-1, 1), 2.0)];
+//! let mut map = HeightMap::from_heights(&Layout::pointy(), heights)?;
+//! // Walls down to 0 about the panel, and a rim on each cap.
+//! map.fringe = Fringe::Heights(vec![[0.0; 6]; map.cells.len()]);
+//! let rim = InsetOptions { scale: 0.2, keep_inner_face: true, ..Default::default() };
+//! map.caps = Some(FaceOptions { insetting: Some(rim), ..Default::default() });
+//! assert_eq!(map.plan()?, Counts { vertices: 120, indices: 300 });
+//! let mesh = map.build()?;
+//! assert_eq!(mesh.vertices[0][1], 4.0);
+//! # Ok::<(), Box<dyn std::error::Error>>(())
+//! ```
+//!
+//! A column is handed its corners, and meshes are merged:
+//!
+//! ```
+//! use hosirekar::{Column, Job, Refusal};
+//!
+//! // Corners about the middle of the hexagon, x and z.
+//! let corners = [[2.0, 0.0], [1.0, 2.0], [-1.0, 2.0], [-2.0, 0.0], [-1.0, -2.0], [1.0, -2.0]];
+//! let column = Column { bottom: None, position: [10.0, 0.0], ..Column::new(corners, 3.0) };
+//! let mut mesh = column.build()?;
+//! mesh.add(&Column { position: [0.0, 0.0], ..column })?;
+//! assert_eq!(mesh.centroid()?, [5.0, 1.8, 0.0]);
+//! # Ok::<(), Refusal>(())
 //! ```
 //!
 //! # Refusals
@@ -39,6 +51,13 @@
 //!
 //! Of a job that is refused for its [`Range`](Refusal::Range), [`out_of_range`](Job::out_of_range) names
 //! the field and the entry.
+//!
+//! # Axes
+//!
+//! They are right-handed with y up. A job is scaled, then turned, then moved; position, offset and origin
+//! are added after the turn and are not turned themselves. For a machine with z up, the rotation
+//! `[[1.0, 0.0, 0.0], [0.0, 0.0, -1.0], [0.0, 1.0, 0.0]]` takes (x, y, z) to (x, -z, y). The second number
+//! of a position or an origin is then added to the height: leave it 0, and give an offset.
 //!
 //! # Corners
 //!

@@ -426,6 +426,31 @@ fn what_is_left_out_changes_nothing() {
     assert_eq!(moved.build().unwrap().vertices[1], [1.0, 3.0, 2.0]);
 }
 
+#[test]
+fn position_offset_and_origin_are_added_after_the_turn() {
+    // (x, y, z) becomes (x, -z, y), so that z is up.
+    let rotation = Some([[1.0, 0.0, 0.0], [0.0, 0.0, -1.0], [0.0, 1.0, 0.0]]);
+    let offset = Some([1.0, 2.0, 3.0]);
+    let plane = Plane {
+        position: [10.0, 20.0],
+        rotation,
+        offset,
+        ..Plane::new(CORNERS)
+    };
+    let mesh = plane.build().unwrap();
+    assert_eq!(mesh.vertices[1], [1.0 + 11.0, -2.0 + 2.0, 0.0 + 23.0]);
+    assert_eq!(mesh.normals[1], [0.0, 0.0, 1.0]);
+    let map = HeightMap {
+        origin: Some([10.0, 20.0]),
+        rotation,
+        offset,
+        ..HeightMap::new(CORNERS, vec![cell(5.0, [7.0, 8.0])])
+    };
+    // The cell's own position is part of the map and turns with it.
+    let mesh = map.build().unwrap();
+    assert_eq!(mesh.vertices[1], [8.0 + 11.0, -10.0 + 2.0, 5.0 + 23.0]);
+}
+
 /// Options that differ in the sign of their zeros alone, which a u of 0 shows.
 fn turned_about(zero: f32) -> FaceOptions {
     let mut options = FaceOptions::default();
