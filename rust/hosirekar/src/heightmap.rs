@@ -87,7 +87,9 @@ pub struct Cell {
     /// The middle of its cap, x and z.
     pub position: [f32; 2],
     /// The left and the right end of each side, x and z, seen from the middle of the cell (axes
-    /// right-handed, y up), where the cell stands.
+    /// right-handed, y up), where the cell stands. A wall's triangles then turn counter-clockwise seen
+    /// from outside. Its normal is left + right, normalised, as in hexx: the way from the middle of the
+    /// map to the wall, which is not always outwards.
     pub side_ends: [[[f32; 2]; 2]; 6],
     /// The cell beyond each side by its place among the cells, if there is one.
     pub neighbours: [Option<usize>; 6],

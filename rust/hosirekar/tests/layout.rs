@@ -252,6 +252,20 @@ fn walls_turn_away_from_their_cells_and_caps_upwards() {
 }
 
 #[test]
+fn the_normal_of_a_wall_is_its_way_from_the_middle_of_the_map() {
+    // Side 0 looks along x. Before the middle its normal looks back.
+    for (hex, along) in [((0, 0), 1.0), ((1, 0), 1.0), ((-1, 0), -1.0)] {
+        let mut map = HeightMap::from_heights(&Layout::pointy(), [(hex, 1.0)]).unwrap();
+        map.fringe = Fringe::Heights(vec![[0.0, 9.0, 9.0, 9.0, 9.0, 9.0]]);
+        map.caps = None;
+        for normal in map.build().unwrap().normals {
+            assert!((normal[0] - along).abs() < 1e-6 && normal[1..] == [0.0, 0.0]);
+        }
+        assert_eq!(map.plan().unwrap().vertices, 4);
+    }
+}
+
+#[test]
 fn cells_keep_their_order_and_know_their_neighbours() {
     let map = HeightMap::from_heights(&Layout::pointy(), HEIGHTS).unwrap();
     assert_eq!(map.cells.len(), 7);
