@@ -2,11 +2,11 @@
 
 use crate::placement::vec2;
 use crate::range::Tested;
-use crate::refusal::answered;
-use crate::{Counts, Job, MeshBuffers, OutOfRange, Refusal};
+use crate::refusal::{answered, faces_told, window_told};
+use crate::{Counts, Job, MeshBuffers, OutOfRange, Refusal, Window};
 use hosirekar_sys::{
-    hosirekar_cheap_column_build, hosirekar_cheap_column_face, hosirekar_cheap_column_plan,
-    CCheapColumn,
+    hosirekar_cheap_column_build, hosirekar_cheap_column_face, hosirekar_cheap_column_faces,
+    hosirekar_cheap_column_plan, hosirekar_cheap_column_window, CCheapColumn,
 };
 
 /// A column of twelve vertices without a bottom, as hexx's `MeshInfo::cheap_hexagonal_column` makes
@@ -52,6 +52,21 @@ impl Job for CheapColumn {
         answered(hosirekar_cheap_column_plan(
             self.job(),
             self.corners.as_flattened(),
+        ))
+    }
+
+    fn faces(&self) -> Result<usize, Refusal> {
+        faces_told(hosirekar_cheap_column_faces(
+            self.job(),
+            self.corners.as_flattened(),
+        ))
+    }
+
+    fn window(&self, face: usize) -> Result<Window, Refusal> {
+        window_told(hosirekar_cheap_column_window(
+            self.job(),
+            self.corners.as_flattened(),
+            face,
         ))
     }
 

@@ -4,10 +4,11 @@ use crate::job::job_made_ready;
 use crate::options::Table;
 use crate::placement::{placement, vec2};
 use crate::range::Tested;
-use crate::refusal::answered;
-use crate::{Counts, FaceOptions, Job, Mesh, MeshBuffers, OutOfRange, Refusal};
+use crate::refusal::{answered, faces_told, window_told};
+use crate::{Counts, FaceOptions, Job, Mesh, MeshBuffers, OutOfRange, Refusal, Window};
 use hosirekar_sys::{
-    hosirekar_column_build, hosirekar_column_face, hosirekar_column_plan, CColumn, CSubdivisions,
+    hosirekar_column_build, hosirekar_column_face, hosirekar_column_faces, hosirekar_column_plan,
+    hosirekar_column_window, CColumn, CSubdivisions,
 };
 
 /// A hexagonal column that stands on height 0, as hexx's `ColumnMeshBuilder` makes it.
@@ -136,6 +137,27 @@ impl Job for Ready<'_> {
             self.corners,
             self.table.numbers(),
             self.table.marks(),
+        ))
+    }
+
+    fn faces(&self) -> Result<usize, Refusal> {
+        faces_told(hosirekar_column_faces(
+            self.job,
+            self.ends,
+            self.corners,
+            self.table.numbers(),
+            self.table.marks(),
+        ))
+    }
+
+    fn window(&self, face: usize) -> Result<Window, Refusal> {
+        window_told(hosirekar_column_window(
+            self.job,
+            self.ends,
+            self.corners,
+            self.table.numbers(),
+            self.table.marks(),
+            face,
         ))
     }
 

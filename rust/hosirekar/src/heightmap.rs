@@ -4,11 +4,11 @@ use crate::job::job_made_ready;
 use crate::options::{Table, DEFAULT};
 use crate::placement::{placement, vec2};
 use crate::range::Tested;
-use crate::refusal::answered;
-use crate::{Counts, FaceOptions, Job, Mesh, MeshBuffers, OutOfRange, Refusal};
+use crate::refusal::{answered, faces_told, window_told};
+use crate::{Counts, FaceOptions, Job, Mesh, MeshBuffers, OutOfRange, Refusal, Window};
 use hosirekar_sys::{
-    hosirekar_heightmap_build, hosirekar_heightmap_face, hosirekar_heightmap_plan, CHeightMap,
-    COrigin, CRange,
+    hosirekar_heightmap_build, hosirekar_heightmap_face, hosirekar_heightmap_faces,
+    hosirekar_heightmap_plan, hosirekar_heightmap_window, CHeightMap, COrigin, CRange,
 };
 use std::ops::RangeInclusive;
 
@@ -279,6 +279,33 @@ impl Job for ReadyHeightMap<'_> {
             self.map.cap_corners.as_flattened(),
             self.table.numbers(),
             self.table.marks(),
+        ))
+    }
+
+    fn faces(&self) -> Result<usize, Refusal> {
+        faces_told(hosirekar_heightmap_faces(
+            self.job,
+            self.cells.as_flattened(),
+            self.neighbours.as_flattened(),
+            self.fringe(),
+            self.customs.as_flattened(),
+            self.map.cap_corners.as_flattened(),
+            self.table.numbers(),
+            self.table.marks(),
+        ))
+    }
+
+    fn window(&self, face: usize) -> Result<Window, Refusal> {
+        window_told(hosirekar_heightmap_window(
+            self.job,
+            self.cells.as_flattened(),
+            self.neighbours.as_flattened(),
+            self.fringe(),
+            self.customs.as_flattened(),
+            self.map.cap_corners.as_flattened(),
+            self.table.numbers(),
+            self.table.marks(),
+            face,
         ))
     }
 

@@ -1,6 +1,6 @@
 //! What every job can be asked.
 
-use crate::{Counts, Mesh, MeshBuffers, OutOfRange, Refusal};
+use crate::{Counts, Mesh, MeshBuffers, OutOfRange, Refusal, Window};
 
 /// A [`Plane`](crate::Plane), a [`Column`](crate::Column), a [`CheapColumn`](crate::CheapColumn) or a
 /// [`HeightMap`](crate::HeightMap).
@@ -15,6 +15,33 @@ pub trait Job {
     ///
     /// [`Range`](Refusal::Range), [`Limit`](Refusal::Limit).
     fn plan(&self) -> Result<Counts, Refusal>;
+
+    /// How many faces the job has. They are numbered from 0.
+    ///
+    /// # Errors
+    ///
+    /// Those of [`plan`](Job::plan).
+    fn faces(&self) -> Result<usize, Refusal>;
+
+    /// Which places of the whole mesh are those of one face: what [`build_face`](Job::build_face)
+    /// writes. Windows lie end to end in the order of the faces.
+    ///
+    /// ```
+    /// use hosirekar::{Column, Job};
+    ///
+    /// let corners = [[2.0, 0.0], [1.0, 2.0], [-1.0, 2.0], [-2.0, 0.0], [-1.0, -2.0], [1.0, -2.0]];
+    /// let column = Column::new(corners, 5.0);
+    /// assert_eq!(column.faces()?, 8);
+    /// // Six sides of four vertices and six indices come before the top.
+    /// let top = column.window(6)?;
+    /// assert_eq!((top.vertices, top.indices), (24..30, 36..48));
+    /// # Ok::<(), hosirekar::Refusal>(())
+    /// ```
+    ///
+    /// # Errors
+    ///
+    /// Those of [`plan`](Job::plan), then [`NoFace`](Refusal::NoFace).
+    fn window(&self, face: usize) -> Result<Window, Refusal>;
 
     /// Writes the whole mesh to the front of lent buffers; what lies past the counts stays.
     ///
@@ -102,6 +129,14 @@ macro_rules! job_made_ready {
         impl Job for $job {
             fn plan(&self) -> Result<Counts, Refusal> {
                 self.ready().plan()
+            }
+
+            fn faces(&self) -> Result<usize, Refusal> {
+                self.ready().faces()
+            }
+
+            fn window(&self, face: usize) -> Result<Window, Refusal> {
+                self.ready().window(face)
             }
 
             fn build_into(&self, to: &mut MeshBuffers<'_>) -> Result<Counts, Refusal> {

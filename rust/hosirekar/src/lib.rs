@@ -4,7 +4,8 @@
 //! A job says what is wanted: a [`Plane`], a [`Column`], a [`CheapColumn`] or a [`HeightMap`]. All
 //! that it can be asked stands in the trait [`Job`]: [`plan`](Job::plan) counts without a mesh,
 //! [`build`](Job::build) makes one, [`build_into`](Job::build_into) writes it to buffers that you
-//! lend, and [`build_face`](Job::build_face) writes one face of it.
+//! lend, and [`build_face`](Job::build_face) writes one face of it, to the places that
+//! [`window`](Job::window) tells.
 //!
 //! ```
 //! use hosirekar::{layout::Layout, Counts, FaceOptions, Fringe, HeightMap, InsetOptions, Job};
@@ -97,7 +98,7 @@ pub use cheap_column::CheapColumn;
 pub use column::Column;
 pub use heightmap::{Cell, CellOptions, Fringe, HeightMap, ReadyHeightMap};
 pub use job::Job;
-pub use mesh::{Counts, Mesh, MeshBuffers};
+pub use mesh::{Counts, Mesh, MeshBuffers, Window};
 pub use options::{FaceOptions, InsetOptions, InsetScaleMode, Rect, UVOptions};
 pub use plane::Plane;
 pub use range::OutOfRange;

@@ -7,6 +7,7 @@ use hosirekar_sys::{
     hosirekar_centroid, hosirekar_merge, hosirekar_offset, hosirekar_scale,
     hosirekar_texture_scale, hosirekar_uv_centroid, CCounts,
 };
+use std::ops::Range;
 
 /// How many vertices and indices a mesh has.
 #[derive(Clone, Copy, Debug, Default, PartialEq, Eq, Hash)]
@@ -15,6 +16,15 @@ pub struct Counts {
     pub vertices: usize,
     /// Three for each triangle.
     pub indices: usize,
+}
+
+/// Which places of a mesh are those of one face.
+#[derive(Clone, Debug, Default, PartialEq, Eq, Hash)]
+pub struct Window {
+    /// Of its vertices, with their normals and uvs.
+    pub vertices: Range<usize>,
+    /// Of its indices, which name these vertices alone.
+    pub indices: Range<usize>,
 }
 
 /// A mesh: a position, a normal and a uv for each vertex, and triangles by vertex numbers.

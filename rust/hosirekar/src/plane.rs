@@ -4,9 +4,12 @@ use crate::job::job_made_ready;
 use crate::options::Table;
 use crate::placement::{placement, vec2};
 use crate::range::Tested;
-use crate::refusal::answered;
-use crate::{Counts, FaceOptions, Job, Mesh, MeshBuffers, OutOfRange, Refusal};
-use hosirekar_sys::{hosirekar_plane_build, hosirekar_plane_face, hosirekar_plane_plan, CPlane};
+use crate::refusal::{answered, faces_told, window_told};
+use crate::{Counts, FaceOptions, Job, Mesh, MeshBuffers, OutOfRange, Refusal, Window};
+use hosirekar_sys::{
+    hosirekar_plane_build, hosirekar_plane_face, hosirekar_plane_faces, hosirekar_plane_plan,
+    hosirekar_plane_window, CPlane,
+};
 
 /// A hexagon whose normal is up, as hexx's `PlaneMeshBuilder` makes it. It is one face.
 ///
@@ -86,6 +89,25 @@ impl Job for Ready<'_> {
             self.corners,
             self.table.numbers(),
             self.table.marks(),
+        ))
+    }
+
+    fn faces(&self) -> Result<usize, Refusal> {
+        faces_told(hosirekar_plane_faces(
+            self.job,
+            self.corners,
+            self.table.numbers(),
+            self.table.marks(),
+        ))
+    }
+
+    fn window(&self, face: usize) -> Result<Window, Refusal> {
+        window_told(hosirekar_plane_window(
+            self.job,
+            self.corners,
+            self.table.numbers(),
+            self.table.marks(),
+            face,
         ))
     }
 

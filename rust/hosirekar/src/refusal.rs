@@ -1,7 +1,7 @@
 //! Why a call is refused.
 
-use crate::Counts;
-use hosirekar_sys::CAnswer;
+use crate::{Counts, Window};
+use hosirekar_sys::{CAnswer, CFaces, CWindow};
 use std::fmt;
 
 /// Why a call was refused. It then wrote nothing.
@@ -99,4 +99,17 @@ pub(crate) fn answered(answer: CAnswer) -> Result<Counts, Refusal> {
     }
     // The archive's promises give no other number.
     Err(Refusal::from_number(answer.number).expect("an answer's number is at most 8"))
+}
+
+/// How many faces there are, or the refusal.
+pub(crate) fn faces_told(told: CFaces) -> Result<usize, Refusal> {
+    answered(told.answer).map(|_| told.faces)
+}
+
+/// The places of a face, or the refusal.
+pub(crate) fn window_told(told: CWindow) -> Result<Window, Refusal> {
+    answered(told.answer).map(|_| Window {
+        vertices: told.first_vertex..told.first_vertex + told.vertices,
+        indices: told.first_index..told.first_index + told.indices,
+    })
 }

@@ -156,6 +156,8 @@ fn a_neighbour_is_a_cell_or_none() {
         map.cells[1].neighbours[5] = Some(place);
         assert_eq!(map.plan(), Err(Refusal::Neighbour), "{place}");
         assert_eq!(map.build(), Err(Refusal::Neighbour), "{place}");
+        assert_eq!(map.faces(), Err(Refusal::Neighbour), "{place}");
+        assert_eq!(map.window(9), Err(Refusal::Neighbour), "{place}");
         let mut mesh = filled(16, 30);
         let face = map.build_face(9, &mut mesh.buffers());
         assert_eq!((face, mesh), (Err(Refusal::Neighbour), filled(16, 30)));

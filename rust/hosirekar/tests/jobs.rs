@@ -108,7 +108,7 @@ fn faces(job: &impl Job) -> usize {
 }
 
 fn faces_in_any_order_are_the_whole(job: &impl Job, count: usize) {
-    assert_eq!(faces(job), count);
+    assert_eq!((faces(job), job.faces()), (count, Ok(count)));
     let counts = job.plan().unwrap();
     let whole = bits(&job.build().unwrap());
     let mut random = Random(0x9e37_79b9_7f4a_7c15);
@@ -150,35 +150,48 @@ fn faces_in_any_order_with_repeats_are_the_whole() {
     faces_in_any_order_are_the_whole(&heightmap().ready(), 3 + 11);
 }
 
-/// What a face leaves of a mesh that was filled with something else is told by what is still there.
-fn a_face_writes_its_own_places(job: &impl Job, faces: usize) {
+/// Each face is written to its window and to nothing else, and windows lie end to end.
+fn a_face_writes_its_window(job: &impl Job, faces: usize) {
+    assert_eq!(job.faces(), Ok(faces));
     let counts = job.plan().unwrap();
     let (whole, empty) = (
         job.build().unwrap(),
         filled(counts.vertices, counts.indices),
     );
-    let (mut vertex, mut index) = (0, 0);
+    let mut end = Window::default();
     for face in 0..faces {
         let mut mesh = empty.clone();
         job.build_face(face, &mut mesh.buffers()).unwrap();
-        let written = mesh.vertices.iter().filter(|p| **p != [-77.0; 3]).count();
-        let indices = mesh.indices.iter().filter(|i| **i != 7777).count();
-        let (past, end) = (vertex + written, index + indices);
+        let window = job.window(face).unwrap();
+        let (v, i) = (window.vertices.clone(), window.indices.clone());
+        assert_eq!((v.start, i.start), (end.vertices.end, end.indices.end));
+        assert!(!v.is_empty() && !i.is_empty());
+        let own = |index: &u16| v.contains(&usize::from(*index));
+        assert!(whole.indices[i.clone()].iter().all(own));
         let mut wanted = empty.clone();
-        wanted.vertices[vertex..past].copy_from_slice(&whole.vertices[vertex..past]);
-        wanted.normals[vertex..past].copy_from_slice(&whole.normals[vertex..past]);
-        wanted.uvs[vertex..past].copy_from_slice(&whole.uvs[vertex..past]);
-        wanted.indices[index..end].copy_from_slice(&whole.indices[index..end]);
+        wanted.vertices[v.clone()].copy_from_slice(&whole.vertices[v.clone()]);
+        wanted.normals[v.clone()].copy_from_slice(&whole.normals[v.clone()]);
+        wanted.uvs[v.clone()].copy_from_slice(&whole.uvs[v]);
+        wanted.indices[i.clone()].copy_from_slice(&whole.indices[i]);
         assert_eq!(bits(&mesh), bits(&wanted));
-        (vertex, index) = (past, end);
+        end = window;
     }
-    assert_eq!((vertex, index), (counts.vertices, counts.indices));
+    let all = (counts.vertices, counts.indices);
+    assert_eq!((end.vertices.end, end.indices.end), all);
+    for none in [faces, usize::MAX] {
+        assert_eq!(job.window(none), Err(Refusal::NoFace));
+    }
 }
 
 #[test]
 fn a_face_writes_its_own_places_alone() {
-    a_face_writes_its_own_places(&column(), 20);
-    a_face_writes_its_own_places(&heightmap(), 14);
+    a_face_writes_its_window(&column(), 20);
+    a_face_writes_its_window(&heightmap(), 14);
+    a_face_writes_its_window(&heightmap().ready(), 14);
+    a_face_writes_its_window(&plane(), 1);
+    a_face_writes_its_window(&cheap_column(), 1);
+    // No face at all.
+    a_face_writes_its_window(&HeightMap::default(), 0);
 }
 
 fn what_lies_past_the_counts_stays(job: &impl Job) {

@@ -151,6 +151,17 @@ impl Job for Point {
         })
     }
 
+    fn faces(&self) -> Result<usize, Refusal> {
+        Ok(1)
+    }
+
+    fn window(&self, _: usize) -> Result<Window, Refusal> {
+        Ok(Window {
+            vertices: 0..1,
+            indices: 0..1,
+        })
+    }
+
     fn build_into(&self, to: &mut MeshBuffers<'_>) -> Result<Counts, Refusal> {
         to.indices[0] = self.0?;
         self.plan()

@@ -95,6 +95,8 @@ fn every_number_is_tested<J: Job + Clone>(
         for x in [past, -past, f32::INFINITY, f32::NEG_INFINITY, f32::NAN] {
             let (job, mut mesh) = (with(x), fresh.clone());
             assert_eq!(job.plan(), Err(Refusal::Range));
+            assert_eq!(job.faces(), Err(Refusal::Range));
+            assert_eq!(job.window(99), Err(Refusal::Range));
             let value = job.out_of_range().map(|stray| stray.value.to_bits());
             assert_eq!(value, Some(x.to_bits()));
             assert!(matches!(job.build(), Err(Refusal::Range)));
@@ -261,6 +263,8 @@ fn too_many_vertices_are_refused_after_numbers_and_before_faces_and_room() {
         tall.build_face(usize::MAX, &mut mesh.buffers()),
         Err(Refusal::Limit)
     );
+    assert_eq!(tall.faces(), Err(Refusal::Limit));
+    assert_eq!(tall.window(usize::MAX), Err(Refusal::Limit));
     let both = Column {
         height: f32::NAN,
         ..tall
@@ -382,6 +386,14 @@ struct Boast(Counts);
 impl Job for Boast {
     fn plan(&self) -> Result<Counts, Refusal> {
         Ok(self.0)
+    }
+
+    fn faces(&self) -> Result<usize, Refusal> {
+        Ok(1)
+    }
+
+    fn window(&self, _: usize) -> Result<Window, Refusal> {
+        Ok(Window::default())
     }
 
     fn build_into(&self, _: &mut MeshBuffers<'_>) -> Result<Counts, Refusal> {
