@@ -2,26 +2,19 @@
 //!
 //! `cargo run --release --example grid -- pointy > grid.obj`
 
-mod layout;
-
+use hosirekar::layout::{Hex, Layout};
 use hosirekar::{CheapColumn, Column, FaceOptions, InsetOptions, Job, Mesh, Plane};
-use layout::{Layout, Orientation};
 use std::error::Error;
 use std::io::{self, BufWriter, Write};
 
 /// A hexagon and its six neighbours, as q and r.
-const HEXES: [[i16; 2]; 7] = [[0, 0], [1, 0], [0, 1], [-1, 1], [-1, 0], [0, -1], [1, -1]];
+const HEXES: [Hex; 7] = [(0, 0), (1, 0), (0, 1), (-1, 1), (-1, 0), (0, -1), (1, -1)];
 
 fn main() -> Result<(), Box<dyn Error>> {
-    let orientation = match std::env::args().nth(1).as_deref() {
-        None | Some("flat") => Orientation::Flat,
-        Some("pointy") => Orientation::Pointy,
+    let layout = match std::env::args().nth(1).as_deref() {
+        None | Some("flat") => Layout::flat(),
+        Some("pointy") => Layout::pointy(),
         Some(other) => return Err(format!("`{other}` is neither flat nor pointy").into()),
-    };
-    let layout = Layout {
-        orientation,
-        origin: [0.0, 0.0],
-        size: 1.0,
     };
     let mesh = grid(&layout)?;
     let mut out = BufWriter::new(io::stdout().lock());
@@ -46,25 +39,24 @@ fn grid(layout: &Layout) -> Result<Mesh, hosirekar::Refusal> {
         ..FaceOptions::default()
     };
     let mut mesh = ground.build()?;
-    for (k, [q, r]) in (1u8..).zip(HEXES) {
+    for (k, hex) in (1u8..).zip(HEXES) {
         let height = f32::from(k) / 2.0;
-        let built = if [q, r] == [0, 0] {
+        if hex == (0, 0) {
             let cheap = CheapColumn {
-                corners: layout.corners(q, r),
-                centre: layout.position(q, r),
+                corners: layout.corners(hex),
+                centre: layout.position(hex),
                 height,
             };
-            cheap.build()?
+            mesh.add(&cheap)?;
         } else {
             let column = Column {
                 top: Some(rim),
                 bottom: None,
-                position: layout.position(q, r),
+                position: layout.position(hex),
                 ..Column::new(corners, height)
             };
-            column.build()?
-        };
-        mesh.merge_with(&built)?;
+            mesh.add(&column)?;
+        }
     }
     Ok(mesh)
 }

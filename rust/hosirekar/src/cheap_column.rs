@@ -1,11 +1,12 @@
 //! A cheap column.
 
 use crate::placement::vec2;
-use crate::refusal::answered;
-use crate::{Counts, Job, MeshBuffers, Refusal};
+use crate::range::Tested;
+use crate::refusal::{answered, faces_told, window_told};
+use crate::{Counts, Job, MeshBuffers, OutOfRange, Refusal, Window};
 use hosirekar_sys::{
-    hosirekar_cheap_column_build, hosirekar_cheap_column_face, hosirekar_cheap_column_plan,
-    CCheapColumn,
+    hosirekar_cheap_column_build, hosirekar_cheap_column_face, hosirekar_cheap_column_faces,
+    hosirekar_cheap_column_plan, hosirekar_cheap_column_window, CCheapColumn,
 };
 
 /// A column of twelve vertices without a bottom, as hexx's `MeshInfo::cheap_hexagonal_column` makes
@@ -54,6 +55,21 @@ impl Job for CheapColumn {
         ))
     }
 
+    fn faces(&self) -> Result<usize, Refusal> {
+        faces_told(hosirekar_cheap_column_faces(
+            self.job(),
+            self.corners.as_flattened(),
+        ))
+    }
+
+    fn window(&self, face: usize) -> Result<Window, Refusal> {
+        window_told(hosirekar_cheap_column_window(
+            self.job(),
+            self.corners.as_flattened(),
+            face,
+        ))
+    }
+
     fn build_into(&self, to: &mut MeshBuffers<'_>) -> Result<Counts, Refusal> {
         answered(hosirekar_cheap_column_build(
             self.job(),
@@ -75,5 +91,9 @@ impl Job for CheapColumn {
             to.uvs.as_flattened_mut(),
             to.indices,
         ))
+    }
+
+    fn out_of_range(&self) -> Option<OutOfRange> {
+        self.stray()
     }
 }

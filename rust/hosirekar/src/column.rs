@@ -1,12 +1,14 @@
 //! A column.
 
+use crate::job::job_made_ready;
 use crate::options::Table;
 use crate::placement::{placement, vec2};
-use crate::refusal::answered;
-use crate::{Counts, FaceOptions, Job, Mesh, MeshBuffers, Refusal};
+use crate::range::Tested;
+use crate::refusal::{answered, faces_told, window_told};
+use crate::{Counts, FaceOptions, Job, Mesh, MeshBuffers, OutOfRange, Refusal, Window};
 use hosirekar_sys::{
-    hosirekar_column_build, hosirekar_column_face, hosirekar_column_plan, CChoice, CColumn,
-    CSubdivisions,
+    hosirekar_column_build, hosirekar_column_face, hosirekar_column_faces, hosirekar_column_plan,
+    hosirekar_column_window, CColumn, CSubdivisions,
 };
 
 /// A hexagonal column that stands on height 0, as hexx's `ColumnMeshBuilder` makes it.
@@ -78,17 +80,6 @@ impl Default for Column {
     }
 }
 
-/// A face that may be there, its options added to the table.
-fn choice(options: &Option<FaceOptions>, table: &mut Table) -> CChoice {
-    match options {
-        None => CChoice::default(),
-        Some(options) => CChoice {
-            given: true,
-            option: table.add(options),
-        },
-    }
-}
-
 impl Column {
     /// All faces, each side from a corner to the next, at (0, 0).
     ///
@@ -104,7 +95,7 @@ impl Column {
         }
     }
 
-    fn call(&self) -> Call<'_> {
+    fn ready(&self) -> Ready<'_> {
         let mut table = Table::default();
         let job = CColumn {
             height: self.height,
@@ -112,13 +103,13 @@ impl Column {
                 given: self.subdivisions.is_some(),
                 number: self.subdivisions.unwrap_or_default(),
             },
-            sides: std::array::from_fn(|side| choice(&self.sides[side], &mut table)),
-            top: choice(&self.top, &mut table),
-            bottom: choice(&self.bottom, &mut table),
+            sides: std::array::from_fn(|side| table.choice(&self.sides[side])),
+            top: table.choice(&self.top),
+            bottom: table.choice(&self.bottom),
             position: vec2(self.position),
             placement: placement(self.scale, self.rotation, self.offset),
         };
-        Call {
+        Ready {
             job,
             ends: self.side_ends.as_flattened().as_flattened(),
             corners: self.cap_corners.as_flattened(),
@@ -127,15 +118,18 @@ impl Column {
     }
 }
 
+/// Six sides and two caps may have options of their own.
+const FACES: usize = 8;
+
 /// A column as the archive takes it.
-struct Call<'a> {
+struct Ready<'a> {
     job: CColumn,
     ends: &'a [f32],
     corners: &'a [f32],
-    table: Table,
+    table: Table<FACES>,
 }
 
-impl Call<'_> {
+impl Job for Ready<'_> {
     fn plan(&self) -> Result<Counts, Refusal> {
         answered(hosirekar_column_plan(
             self.job,
@@ -146,7 +140,28 @@ impl Call<'_> {
         ))
     }
 
-    fn build(&self, to: &mut MeshBuffers<'_>) -> Result<Counts, Refusal> {
+    fn faces(&self) -> Result<usize, Refusal> {
+        faces_told(hosirekar_column_faces(
+            self.job,
+            self.ends,
+            self.corners,
+            self.table.numbers(),
+            self.table.marks(),
+        ))
+    }
+
+    fn window(&self, face: usize) -> Result<Window, Refusal> {
+        window_told(hosirekar_column_window(
+            self.job,
+            self.ends,
+            self.corners,
+            self.table.numbers(),
+            self.table.marks(),
+            face,
+        ))
+    }
+
+    fn build_into(&self, to: &mut MeshBuffers<'_>) -> Result<Counts, Refusal> {
         answered(hosirekar_column_build(
             self.job,
             self.ends,
@@ -159,25 +174,14 @@ impl Call<'_> {
             to.indices,
         ))
     }
-}
-
-impl Job for Column {
-    fn plan(&self) -> Result<Counts, Refusal> {
-        self.call().plan()
-    }
-
-    fn build_into(&self, to: &mut MeshBuffers<'_>) -> Result<Counts, Refusal> {
-        self.call().build(to)
-    }
 
     fn build_face(&self, face: usize, to: &mut MeshBuffers<'_>) -> Result<Counts, Refusal> {
-        let call = self.call();
         answered(hosirekar_column_face(
-            call.job,
-            call.ends,
-            call.corners,
-            call.table.numbers(),
-            call.table.marks(),
+            self.job,
+            self.ends,
+            self.corners,
+            self.table.numbers(),
+            self.table.marks(),
             face,
             to.vertices.as_flattened_mut(),
             to.normals.as_flattened_mut(),
@@ -185,11 +189,6 @@ impl Job for Column {
             to.indices,
         ))
     }
-
-    fn build(&self) -> Result<Mesh, Refusal> {
-        let call = self.call();
-        let mut mesh = Mesh::zeroed(call.plan()?)?;
-        call.build(&mut mesh.buffers())?;
-        Ok(mesh)
-    }
 }
+
+job_made_ready!(Column);

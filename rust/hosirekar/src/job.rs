@@ -1,8 +1,13 @@
 //! What every job can be asked.
 
-use crate::{Counts, Mesh, MeshBuffers, Refusal};
+use crate::{Counts, Mesh, MeshBuffers, OutOfRange, Refusal, Window};
 
-/// A [`Plane`](crate::Plane), a [`Column`](crate::Column) or a [`CheapColumn`](crate::CheapColumn).
+/// A [`Plane`](crate::Plane), a [`Column`](crate::Column), a [`CheapColumn`](crate::CheapColumn) or a
+/// [`HeightMap`](crate::HeightMap).
+///
+/// Every call on a height map may also be refused for its lists ([`Shape`](Refusal::Shape)), which
+/// comes before all else, and for a neighbour that is no cell ([`Neighbour`](Refusal::Neighbour)),
+/// which comes after the [`Range`](Refusal::Range).
 pub trait Job {
     /// How many vertices and indices the whole mesh has.
     ///
@@ -10,6 +15,33 @@ pub trait Job {
     ///
     /// [`Range`](Refusal::Range), [`Limit`](Refusal::Limit).
     fn plan(&self) -> Result<Counts, Refusal>;
+
+    /// How many faces the job has. They are numbered from 0.
+    ///
+    /// # Errors
+    ///
+    /// Those of [`plan`](Job::plan).
+    fn faces(&self) -> Result<usize, Refusal>;
+
+    /// Which places of the whole mesh are those of one face: what [`build_face`](Job::build_face)
+    /// writes. Windows lie end to end in the order of the faces.
+    ///
+    /// ```
+    /// use hosirekar::{Column, Job};
+    ///
+    /// let corners = [[2.0, 0.0], [1.0, 2.0], [-1.0, 2.0], [-2.0, 0.0], [-1.0, -2.0], [1.0, -2.0]];
+    /// let column = Column::new(corners, 5.0);
+    /// assert_eq!(column.faces()?, 8);
+    /// // Six sides of four vertices and six indices come before the top.
+    /// let top = column.window(6)?;
+    /// assert_eq!((top.vertices, top.indices), (24..30, 36..48));
+    /// # Ok::<(), hosirekar::Refusal>(())
+    /// ```
+    ///
+    /// # Errors
+    ///
+    /// Those of [`plan`](Job::plan), then [`NoFace`](Refusal::NoFace).
+    fn window(&self, face: usize) -> Result<Window, Refusal>;
 
     /// Writes the whole mesh to the front of lent buffers; what lies past the counts stays.
     ///
@@ -70,4 +102,63 @@ pub trait Job {
         self.build_into(&mut mesh.buffers())?;
         Ok(mesh)
     }
+
+    /// Appends the whole mesh to another: [`Mesh::add`] says how.
+    ///
+    /// # Errors
+    ///
+    /// [`Shape`](Refusal::Shape) of that mesh, [`Range`](Refusal::Range), [`Limit`](Refusal::Limit).
+    fn add_to(&self, mesh: &mut Mesh) -> Result<Counts, Refusal> {
+        let target = mesh.counts()?;
+        mesh.append(target, self.plan()?, |to| self.build_into(to))
+    }
+
+    /// The first of the job's numbers that is out of range, by the order of its fields. Where there is
+    /// one, every call is refused with [`Range`](Refusal::Range), or before it with
+    /// [`Shape`](Refusal::Shape).
+    ///
+    /// A job of your own has none, unless it says so itself.
+    fn out_of_range(&self) -> Option<OutOfRange> {
+        None
+    }
 }
+
+/// A job whose lists are made ready once for each call on it.
+macro_rules! job_made_ready {
+    ($job:ty) => {
+        impl Job for $job {
+            fn plan(&self) -> Result<Counts, Refusal> {
+                self.ready().plan()
+            }
+
+            fn faces(&self) -> Result<usize, Refusal> {
+                self.ready().faces()
+            }
+
+            fn window(&self, face: usize) -> Result<Window, Refusal> {
+                self.ready().window(face)
+            }
+
+            fn build_into(&self, to: &mut MeshBuffers<'_>) -> Result<Counts, Refusal> {
+                self.ready().build_into(to)
+            }
+
+            fn build_face(&self, face: usize, to: &mut MeshBuffers<'_>) -> Result<Counts, Refusal> {
+                self.ready().build_face(face, to)
+            }
+
+            fn build(&self) -> Result<Mesh, Refusal> {
+                self.ready().build()
+            }
+
+            fn add_to(&self, mesh: &mut Mesh) -> Result<Counts, Refusal> {
+                self.ready().add_to(mesh)
+            }
+
+            fn out_of_range(&self) -> Option<OutOfRange> {
+                self.stray()
+            }
+        }
+    };
+}
+pub(crate) use job_made_ready;

@@ -1,25 +1,39 @@
-//! Meshes of hexagon planes and columns, in the manner of hexx, over functions that are proved.
+//! Meshes of hexagon planes, columns and height maps, in the manner of hexx, over functions that are
+//! proved.
 //!
-//! A job says what is wanted: a [`Plane`], a [`Column`] or a [`CheapColumn`]. All that it can be
-//! asked stands in the trait [`Job`]: [`plan`](Job::plan) counts without a mesh,
+//! A job says what is wanted: a [`Plane`], a [`Column`], a [`CheapColumn`] or a [`HeightMap`]. All
+//! that it can be asked stands in the trait [`Job`]: [`plan`](Job::plan) counts without a mesh,
 //! [`build`](Job::build) makes one, [`build_into`](Job::build_into) writes it to buffers that you
-//! lend, and [`build_face`](Job::build_face) writes one face of it.
+//! lend, and [`build_face`](Job::build_face) writes one face of it, to the places that
+//! [`window`](Job::window) tells.
 //!
 //! ```
-//! use hosirekar::{Column, Counts, FaceOptions, InsetOptions, Job, Refusal};
+//! use hosirekar::{layout::Layout, Counts, FaceOptions, Fringe, HeightMap, InsetOptions, Job};
 //!
-//! fn main() -> Result<(), Refusal> {
-//!     // Corners about the middle of the hexagon, x and z.
-//!     let corners = [[2.0, 0.0], [1.0, 2.0], [-1.0, 2.0], [-2.0, 0.0], [-1.0, -2.0], [1.0, -2.0]];
-//!     let inset = InsetOptions { scale: 0.2, keep_inner_face: true, ..Default::default() };
-//!     let top = Some(FaceOptions { insetting: Some(inset), ..Default::default() });
-//!     let column = Column { top, bottom: None, position: [10.0, 0.0], ..Column::new(corners, 3.0) };
-//!     assert_eq!(column.plan()?, Counts { vertices: 36, indices: 84 });
-//!     let mut mesh = column.build()?;
-//!     mesh.merge_with(&Column { position: [0.0, 0.0], ..column }.build()?)?;
-//!     assert_eq!(mesh.centroid()?, [5.0, 2.0, 0.0]);
-//!     Ok(())
-//! }
+//! let heights = [((0, 0), 4.0), ((1, 0), 3.0), ((0, 1), 2.0), ((-1, 1), 2.0)];
+//! let mut map = HeightMap::from_heights(&Layout::pointy(), heights)?;
+//! // Walls down to 0 about the panel, and a rim on each cap.
+//! map.fringe = Fringe::Heights(vec![[0.0; 6]; map.cells.len()]);
+//! let rim = InsetOptions { scale: 0.2, keep_inner_face: true, ..Default::default() };
+//! map.caps = Some(FaceOptions { insetting: Some(rim), ..Default::default() });
+//! assert_eq!(map.plan()?, Counts { vertices: 120, indices: 300 });
+//! let mesh = map.build()?;
+//! assert_eq!(mesh.vertices[0][1], 4.0);
+//! # Ok::<(), Box<dyn std::error::Error>>(())
+//! ```
+//!
+//! A column is handed its corners, and meshes are merged:
+//!
+//! ```
+//! use hosirekar::{Column, Job, Refusal};
+//!
+//! // Corners about the middle of the hexagon, x and z.
+//! let corners = [[2.0, 0.0], [1.0, 2.0], [-1.0, 2.0], [-2.0, 0.0], [-1.0, -2.0], [1.0, -2.0]];
+//! let column = Column { bottom: None, position: [10.0, 0.0], ..Column::new(corners, 3.0) };
+//! let mut mesh = column.build()?;
+//! mesh.add(&Column { position: [0.0, 0.0], ..column })?;
+//! assert_eq!(mesh.centroid()?, [5.0, 1.8, 0.0]);
+//! # Ok::<(), Refusal>(())
 //! ```
 //!
 //! # Refusals
@@ -36,40 +50,56 @@
 //! assert_eq!(tall.build(), Err(Refusal::Limit));
 //! ```
 //!
+//! Of a job that is refused for its [`Range`](Refusal::Range), [`out_of_range`](Job::out_of_range) names
+//! the field and the entry.
+//!
+//! # Axes
+//!
+//! They are right-handed with y up. A job is scaled, then turned, then moved; position, offset and origin
+//! are added after the turn and are not turned themselves. For a machine with z up, the rotation
+//! `[[1.0, 0.0, 0.0], [0.0, 0.0, -1.0], [0.0, 1.0, 0.0]]` takes (x, y, z) to (x, -z, y). The second number
+//! of a position or an origin is then added to the height: leave it 0, and give an offset.
+//!
 //! # Corners
 //!
-//! No layout of a grid is here: a job is handed its corners, each an x and a z. Planes and columns
-//! take the corners about the middle of the hexagon, centre-aligned, and their position apart. The
-//! cheap column takes the hexagon's own corners, where it stands. The example `grid` has a small
-//! layout for flat and pointy hexagons.
+//! A job is handed its corners, each an x and a z. Planes and columns take the corners about the middle
+//! of the hexagon, centre-aligned, and their position apart. The cheap column takes the hexagon's own
+//! corners, where it stands. The cells of a height map have the ends of their sides where they stand
+//! before the origin is added. The module [`layout`] has all of these for flat and pointy hexagons.
 //!
-//! A user of hexx has them from a `HexLayout`, a point `p` as `[p.x, p.y]`, and the rest from what
-//! the builder was given:
+//! A user of hexx has them from a `HexLayout` too, a point `p` as `[p.x, p.y]`, and the rest from what
+//! the builder was given ([`HeightMap`] has a table of its own):
 //!
 //! | here | in hexx |
 //! |---|---|
-//! | [`Plane::corners`], [`Column::cap_corners`] | `layout.center_aligned_hex_corners()` |
+//! | [`Plane::corners`], [`Column::cap_corners`], [`HeightMap::cap_corners`] | `layout.center_aligned_hex_corners()` |
 //! | [`Column::side_ends`] | `layout.hex_edge_corners(Hex::ZERO)`, of a layout with its origin at zero |
+//! | [`Cell::side_ends`], [`Cell::position`] | `layout.hex_edge_corners(hex)`, `layout.hex_to_world_pos(hex)`, of a layout with its origin at zero |
 //! | [`Plane::position`], [`Column::position`] | `layout.hex_to_world_pos(pos)`; after `center_aligned()`, of a layout with its origin at zero |
 //! | [`CheapColumn::corners`], [`CheapColumn::centre`] | `layout.hex_corners(hex)`, `layout.hex_to_world_pos(hex)` |
 //! | [`Plane::options`] | `face_options` |
 //! | [`Column::sides`], [`Column::top`], [`Column::bottom`] | `sides_options`, and the `face_options` of `top_face` and `bottom_face` |
-//! | [`Plane::rotation`], [`Column::rotation`] | `Mat3::from_quat(rotation).transpose().to_cols_array_2d()` |
+//! | [`Plane::rotation`], [`Column::rotation`], [`HeightMap::rotation`] | `Mat3::from_quat(rotation).transpose().to_cols_array_2d()` |
 #![forbid(unsafe_code)]
 
 mod cheap_column;
 mod column;
+mod heightmap;
 mod job;
+pub mod layout;
 mod mesh;
 mod options;
 mod placement;
 mod plane;
+mod range;
 mod refusal;
 
 pub use cheap_column::CheapColumn;
 pub use column::Column;
+pub use heightmap::{Cell, CellOptions, Fringe, HeightMap, ReadyHeightMap};
 pub use job::Job;
-pub use mesh::{Counts, Mesh, MeshBuffers};
+pub use mesh::{Counts, Mesh, MeshBuffers, Window};
 pub use options::{FaceOptions, InsetOptions, InsetScaleMode, Rect, UVOptions};
 pub use plane::Plane;
+pub use range::OutOfRange;
 pub use refusal::Refusal;

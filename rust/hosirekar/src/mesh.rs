@@ -2,11 +2,12 @@
 
 use crate::placement::{vec2, vec3};
 use crate::refusal::answered;
-use crate::Refusal;
+use crate::{Job, Refusal};
 use hosirekar_sys::{
     hosirekar_centroid, hosirekar_merge, hosirekar_offset, hosirekar_scale,
     hosirekar_texture_scale, hosirekar_uv_centroid, CCounts,
 };
+use std::ops::Range;
 
 /// How many vertices and indices a mesh has.
 #[derive(Clone, Copy, Debug, Default, PartialEq, Eq, Hash)]
@@ -15,6 +16,15 @@ pub struct Counts {
     pub vertices: usize,
     /// Three for each triangle.
     pub indices: usize,
+}
+
+/// Which places of a mesh are those of one face.
+#[derive(Clone, Debug, Default, PartialEq, Eq, Hash)]
+pub struct Window {
+    /// Of its vertices, with their normals and uvs.
+    pub vertices: Range<usize>,
+    /// Of its indices, which name these vertices alone.
+    pub indices: Range<usize>,
 }
 
 /// A mesh: a position, a normal and a uv for each vertex, and triangles by vertex numbers.
@@ -87,9 +97,7 @@ impl Mesh {
     /// [`Limit`](Refusal::Limit) above 65,536 vertices or 262,144 indices, which no plan has: nothing
     /// is allocated for such counts.
     pub fn zeroed(counts: Counts) -> Result<Self, Refusal> {
-        if counts.vertices > MOST_VERTICES || counts.indices > MOST_INDICES {
-            return Err(Refusal::Limit);
-        }
+        counts.lawful()?;
         Ok(Self {
             vertices: zeros([0.0; 3], counts.vertices),
             normals: zeros([0.0; 3], counts.vertices),
@@ -132,17 +140,61 @@ impl Mesh {
     /// [`Limit`](Refusal::Limit).
     pub fn merge_with(&mut self, rhs: &Mesh) -> Result<Counts, Refusal> {
         let (target, source) = (self.counts()?, rhs.counts()?);
+        let rhs = rhs.lists();
         // Without more room the call says whether room is all that is wanting.
-        match self.merge_at(target, rhs, source) {
+        match merge(rhs, &mut self.buffers(), target) {
             Err(Refusal::Room) => {
-                self.resize(Counts {
-                    vertices: target.vertices + source.vertices,
-                    indices: target.indices + source.indices,
-                });
-                self.merge_at(target, rhs, source)
+                self.resize(target.and(source));
+                merge(rhs, &mut self.buffers(), target)
             }
             answer => answer,
         }
+    }
+
+    /// Appends the mesh of a job, as `merge_with(&job.build()?)` does.
+    ///
+    /// The job is built at the end of this mesh's own lists, past the room where it is merged to. That
+    /// room stays theirs, so that many jobs cost few allocations.
+    ///
+    /// ```
+    /// use hosirekar::{layout::Layout, Column, Job, Mesh};
+    ///
+    /// let layout = Layout::flat();
+    /// let mut mesh = Mesh::default();
+    /// for hex in [(0, 0), (1, 0), (0, 1)] {
+    ///     let column = Column::new(layout.center_aligned_corners(), 2.0);
+    ///     mesh.add(&Column { position: layout.position(hex), ..column })?;
+    /// }
+    /// assert_eq!(mesh.vertices.len(), 3 * 36);
+    /// # Ok::<(), hosirekar::Refusal>(())
+    /// ```
+    ///
+    /// # Errors
+    ///
+    /// [`Shape`](Refusal::Shape) of this mesh, those of the job's [`build`](Job::build), and
+    /// [`Limit`](Refusal::Limit) of both together.
+    pub fn add(&mut self, job: &(impl Job + ?Sized)) -> Result<Counts, Refusal> {
+        job.add_to(self)
+    }
+
+    /// Appends to this mesh of so many what a job of so many builds.
+    pub(crate) fn append(
+        &mut self,
+        target: Counts,
+        source: Counts,
+        build: impl FnOnce(&mut MeshBuffers<'_>) -> Result<Counts, Refusal>,
+    ) -> Result<Counts, Refusal> {
+        // Nothing is allocated for what no plan has or what the merge would refuse.
+        source.lawful()?;
+        let merged = target.and(source);
+        if merged.vertices > MOST_VERTICES {
+            return Err(Refusal::Limit);
+        }
+        self.resize(merged.and(source));
+        let (mut front, mut end) = self.buffers().split(merged);
+        let answer = build(&mut end).and_then(|_| merge(end.lists(), &mut front, target));
+        self.resize(if answer.is_ok() { merged } else { target });
+        answer
     }
 
     /// Multiplies each position.
@@ -263,23 +315,96 @@ impl Mesh {
         self.indices.resize(counts.indices, 0);
     }
 
-    fn merge_at(&mut self, at: Counts, rhs: &Mesh, source: Counts) -> Result<Counts, Refusal> {
-        answered(hosirekar_merge(
-            source.into(),
-            rhs.vertices.as_flattened(),
-            rhs.normals.as_flattened(),
-            rhs.uvs.as_flattened(),
-            &rhs.indices,
-            at.into(),
-            self.vertices.as_flattened_mut(),
-            self.normals.as_flattened_mut(),
-            self.uvs.as_flattened_mut(),
-            &mut self.indices,
-        ))
+    fn lists(&self) -> Lists<'_> {
+        Lists {
+            vertices: &self.vertices,
+            normals: &self.normals,
+            uvs: &self.uvs,
+            indices: &self.indices,
+        }
     }
 
     fn stored(&self) -> Result<CCounts, Refusal> {
         self.counts().map(CCounts::from)
+    }
+}
+
+/// Four lists of a mesh, to be read.
+#[derive(Clone, Copy)]
+struct Lists<'a> {
+    vertices: &'a [[f32; 3]],
+    normals: &'a [[f32; 3]],
+    uvs: &'a [[f32; 2]],
+    indices: &'a [u16],
+}
+
+/// Merges a mesh into the one of so many vertices and indices at the front of the buffers.
+fn merge(from: Lists<'_>, to: &mut MeshBuffers<'_>, target: Counts) -> Result<Counts, Refusal> {
+    let source = CCounts {
+        vertices: from.vertices.len(),
+        indices: from.indices.len(),
+    };
+    answered(hosirekar_merge(
+        source,
+        from.vertices.as_flattened(),
+        from.normals.as_flattened(),
+        from.uvs.as_flattened(),
+        from.indices,
+        target.into(),
+        to.vertices.as_flattened_mut(),
+        to.normals.as_flattened_mut(),
+        to.uvs.as_flattened_mut(),
+        to.indices,
+    ))
+}
+
+impl<'a> MeshBuffers<'a> {
+    /// Those of so many vertices and indices, and those of what follows.
+    fn split(self, at: Counts) -> (MeshBuffers<'a>, MeshBuffers<'a>) {
+        let (vertices, more_vertices) = self.vertices.split_at_mut(at.vertices);
+        let (normals, more_normals) = self.normals.split_at_mut(at.vertices);
+        let (uvs, more_uvs) = self.uvs.split_at_mut(at.vertices);
+        let (indices, more_indices) = self.indices.split_at_mut(at.indices);
+        let front = MeshBuffers {
+            vertices,
+            normals,
+            uvs,
+            indices,
+        };
+        let end = MeshBuffers {
+            vertices: more_vertices,
+            normals: more_normals,
+            uvs: more_uvs,
+            indices: more_indices,
+        };
+        (front, end)
+    }
+
+    fn lists(&self) -> Lists<'_> {
+        Lists {
+            vertices: self.vertices,
+            normals: self.normals,
+            uvs: self.uvs,
+            indices: self.indices,
+        }
+    }
+}
+
+impl Counts {
+    /// Those of two meshes together.
+    fn and(self, more: Counts) -> Counts {
+        Counts {
+            vertices: self.vertices + more.vertices,
+            indices: self.indices + more.indices,
+        }
+    }
+
+    /// Refused where no plan has as many.
+    fn lawful(self) -> Result<(), Refusal> {
+        if self.vertices > MOST_VERTICES || self.indices > MOST_INDICES {
+            return Err(Refusal::Limit);
+        }
+        Ok(())
     }
 }
 

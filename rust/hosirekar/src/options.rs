@@ -1,7 +1,7 @@
 //! What is done to a face: its uvs and its inset.
 
 use crate::placement::vec2;
-use hosirekar_sys::{hosirekar_alter_uv, CFlip, CUvOptions};
+use hosirekar_sys::{hosirekar_alter_uv, CChoice, CFlip, CUvOptions};
 
 /// What is done to uvs: flipped, then scaled, then moved, then laid into a rectangle.
 ///
@@ -122,36 +122,65 @@ impl Default for Rect {
     }
 }
 
-/// The most faces of a job that have options of their own: six sides and two caps.
-const FACES: usize = 8;
+/// The number of the default options, which need no entry, and of a map's own options among customs.
+pub(crate) const DEFAULT: u8 = 255;
 
-/// The number of the default options, which need no entry.
-const DEFAULT: u8 = 255;
+/// A number that no table has an entry for, with which the archive refuses a job.
+const NOTHING: u8 = 254;
 
-/// The options of a job as the archive takes them: nine numbers and four marks each.
-#[derive(Default)]
-pub(crate) struct Table {
-    numbers: [[f32; 9]; FACES],
-    marks: [[u8; 4]; FACES],
+/// The options of a job as the archive takes them, nine numbers and four marks each: `N` entries at
+/// most, of the 64 that a job may have.
+#[derive(Clone, Debug)]
+pub(crate) struct Table<const N: usize> {
+    numbers: [[f32; 9]; N],
+    marks: [[u8; 4]; N],
     entries: u8,
 }
 
-impl Table {
-    /// The number of these options. An entry is made only where they are neither the default nor
-    /// the last ones again; a table is asked for at most eight.
+impl<const N: usize> Default for Table<N> {
+    fn default() -> Self {
+        Self {
+            numbers: [[0.0; 9]; N],
+            marks: [[0; 4]; N],
+            entries: 0,
+        }
+    }
+}
+
+impl<const N: usize> Table<N> {
+    /// The number of these options, which are the default or have an entry.
     pub(crate) fn add(&mut self, options: &FaceOptions) -> u8 {
-        let (numbers, marks) = (numbers(options), marks(options));
-        if marks == [0; 4] && same(&numbers, &PLAIN) {
+        if marks(options) == [0; 4] && same(&numbers(options), &PLAIN) {
             return DEFAULT;
         }
-        let entry = usize::from(self.entries);
-        if let Some(last) = entry.checked_sub(1) {
-            if marks == self.marks[last] && same(&numbers, &self.numbers[last]) {
-                return self.entries - 1;
-            }
+        self.entry(options)
+    }
+
+    /// A face that may be there, its options added to the table.
+    pub(crate) fn choice(&mut self, options: &Option<FaceOptions>) -> CChoice {
+        match options {
+            None => CChoice::default(),
+            Some(options) => CChoice {
+                given: true,
+                option: self.add(options),
+            },
         }
-        self.numbers[entry] = numbers;
-        self.marks[entry] = marks;
+    }
+
+    /// The entry of these options, the last that has their bits; a new one only where none has. Where
+    /// there is no room for one more, a number that means nothing.
+    pub(crate) fn entry(&mut self, options: &FaceOptions) -> u8 {
+        let (numbers, marks) = (numbers(options), marks(options));
+        let held = usize::from(self.entries);
+        let equal = |k: &usize| marks == self.marks[*k] && same(&numbers, &self.numbers[*k]);
+        if let Some(known) = (0..held).rev().find(equal) {
+            return known as u8;
+        }
+        if held == N {
+            return NOTHING;
+        }
+        self.numbers[held] = numbers;
+        self.marks[held] = marks;
         self.entries += 1;
         self.entries - 1
     }

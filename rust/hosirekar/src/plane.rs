@@ -1,10 +1,15 @@
 //! A plane.
 
+use crate::job::job_made_ready;
 use crate::options::Table;
 use crate::placement::{placement, vec2};
-use crate::refusal::answered;
-use crate::{Counts, FaceOptions, Job, Mesh, MeshBuffers, Refusal};
-use hosirekar_sys::{hosirekar_plane_build, hosirekar_plane_face, hosirekar_plane_plan, CPlane};
+use crate::range::Tested;
+use crate::refusal::{answered, faces_told, window_told};
+use crate::{Counts, FaceOptions, Job, Mesh, MeshBuffers, OutOfRange, Refusal, Window};
+use hosirekar_sys::{
+    hosirekar_plane_build, hosirekar_plane_face, hosirekar_plane_faces, hosirekar_plane_plan,
+    hosirekar_plane_window, CPlane,
+};
 
 /// A hexagon whose normal is up, as hexx's `PlaneMeshBuilder` makes it. It is one face.
 ///
@@ -55,14 +60,14 @@ impl Plane {
         }
     }
 
-    fn call(&self) -> Call<'_> {
+    fn ready(&self) -> Ready<'_> {
         let mut table = Table::default();
         let job = CPlane {
             position: vec2(self.position),
             option: table.add(&self.options),
             placement: placement(self.scale, self.rotation, self.offset),
         };
-        Call {
+        Ready {
             job,
             corners: self.corners.as_flattened(),
             table,
@@ -71,13 +76,13 @@ impl Plane {
 }
 
 /// A plane as the archive takes it.
-struct Call<'a> {
+struct Ready<'a> {
     job: CPlane,
     corners: &'a [f32],
-    table: Table,
+    table: Table<1>,
 }
 
-impl Call<'_> {
+impl Job for Ready<'_> {
     fn plan(&self) -> Result<Counts, Refusal> {
         answered(hosirekar_plane_plan(
             self.job,
@@ -87,7 +92,26 @@ impl Call<'_> {
         ))
     }
 
-    fn build(&self, to: &mut MeshBuffers<'_>) -> Result<Counts, Refusal> {
+    fn faces(&self) -> Result<usize, Refusal> {
+        faces_told(hosirekar_plane_faces(
+            self.job,
+            self.corners,
+            self.table.numbers(),
+            self.table.marks(),
+        ))
+    }
+
+    fn window(&self, face: usize) -> Result<Window, Refusal> {
+        window_told(hosirekar_plane_window(
+            self.job,
+            self.corners,
+            self.table.numbers(),
+            self.table.marks(),
+            face,
+        ))
+    }
+
+    fn build_into(&self, to: &mut MeshBuffers<'_>) -> Result<Counts, Refusal> {
         answered(hosirekar_plane_build(
             self.job,
             self.corners,
@@ -99,24 +123,13 @@ impl Call<'_> {
             to.indices,
         ))
     }
-}
-
-impl Job for Plane {
-    fn plan(&self) -> Result<Counts, Refusal> {
-        self.call().plan()
-    }
-
-    fn build_into(&self, to: &mut MeshBuffers<'_>) -> Result<Counts, Refusal> {
-        self.call().build(to)
-    }
 
     fn build_face(&self, face: usize, to: &mut MeshBuffers<'_>) -> Result<Counts, Refusal> {
-        let call = self.call();
         answered(hosirekar_plane_face(
-            call.job,
-            call.corners,
-            call.table.numbers(),
-            call.table.marks(),
+            self.job,
+            self.corners,
+            self.table.numbers(),
+            self.table.marks(),
             face,
             to.vertices.as_flattened_mut(),
             to.normals.as_flattened_mut(),
@@ -124,11 +137,6 @@ impl Job for Plane {
             to.indices,
         ))
     }
-
-    fn build(&self) -> Result<Mesh, Refusal> {
-        let call = self.call();
-        let mut mesh = Mesh::zeroed(call.plan()?)?;
-        call.build(&mut mesh.buffers())?;
-        Ok(mesh)
-    }
 }
+
+job_made_ready!(Plane);

@@ -1,7 +1,7 @@
 //! Why a call is refused.
 
-use crate::Counts;
-use hosirekar_sys::CAnswer;
+use crate::{Counts, Window};
+use hosirekar_sys::{CAnswer, CFaces, CWindow};
 use std::fmt;
 
 /// Why a call was refused. It then wrote nothing.
@@ -16,9 +16,11 @@ use std::fmt;
 #[derive(Clone, Copy, Debug, PartialEq, Eq, Hash)]
 #[repr(u8)]
 pub enum Refusal {
-    /// A list has the wrong length: a mesh has not one normal and one uv for each vertex.
+    /// A list has the wrong length: a mesh has not one normal and one uv for each vertex, or a height
+    /// map not one entry a cell, more than 65,536 cells, or more than 64 different options.
     Shape = 1,
-    /// A number is not finite, or above 1,000,000 either way.
+    /// A number is not finite, or above 1,000,000 either way. Of a job,
+    /// [`out_of_range`](crate::Job::out_of_range) says which.
     Range = 2,
     /// A neighbour is neither a cell nor none.
     Neighbour = 3,
@@ -64,10 +66,10 @@ impl fmt::Display for Refusal {
     fn fmt(&self, f: &mut fmt::Formatter<'_>) -> fmt::Result {
         f.write_str(match self {
             Refusal::Shape => {
-                "the lists of a mesh do not fit together: give each vertex one normal and one uv"
+                "lists do not fit together: give each vertex of a mesh one normal and one uv, and a map at most 65,536 cells, an entry for each of them, and 64 options"
             }
             Refusal::Range => {
-                "a number is out of range: make each finite and at most 1,000,000 either way"
+                "a number is out of range: make each finite and at most 1,000,000 either way; out_of_range of the job says which it is"
             }
             Refusal::Neighbour => "a neighbour does not exist: name a cell of the map, or none",
             Refusal::Limit => {
@@ -97,4 +99,17 @@ pub(crate) fn answered(answer: CAnswer) -> Result<Counts, Refusal> {
     }
     // The archive's promises give no other number.
     Err(Refusal::from_number(answer.number).expect("an answer's number is at most 8"))
+}
+
+/// How many faces there are, or the refusal.
+pub(crate) fn faces_told(told: CFaces) -> Result<usize, Refusal> {
+    answered(told.answer).map(|_| told.faces)
+}
+
+/// The places of a face, or the refusal.
+pub(crate) fn window_told(told: CWindow) -> Result<Window, Refusal> {
+    answered(told.answer).map(|_| Window {
+        vertices: told.first_vertex..told.first_vertex + told.vertices,
+        indices: told.first_index..told.first_index + told.indices,
+    })
 }

@@ -4,8 +4,9 @@ mod common;
 use common::*;
 use hosirekar::*;
 use hosirekar_sys::{
-    hosirekar_cheap_column_build, hosirekar_column_build, hosirekar_plane_build, CCheapColumn,
-    CChoice, CChoice3, CColumn, CPlacement, CPlane, CSubdivisions, CTurn, CVec2, CVec3,
+    hosirekar_cheap_column_build, hosirekar_column_build, hosirekar_heightmap_build,
+    hosirekar_plane_build, CCheapColumn, CChoice, CChoice3, CColumn, CHeightMap, COrigin,
+    CPlacement, CPlane, CRange, CSubdivisions, CTurn, CVec2, CVec3,
 };
 
 fn floats<const N: usize>(rows: &[[u32; N]]) -> Vec<u32> {
@@ -107,7 +108,7 @@ fn faces(job: &impl Job) -> usize {
 }
 
 fn faces_in_any_order_are_the_whole(job: &impl Job, count: usize) {
-    assert_eq!(faces(job), count);
+    assert_eq!((faces(job), job.faces()), (count, Ok(count)));
     let counts = job.plan().unwrap();
     let whole = bits(&job.build().unwrap());
     let mut random = Random(0x9e37_79b9_7f4a_7c15);
@@ -144,32 +145,53 @@ fn faces_in_any_order_with_repeats_are_the_whole() {
     faces_in_any_order_are_the_whole(&some, 7);
     faces_in_any_order_are_the_whole(&plane(), 1);
     faces_in_any_order_are_the_whole(&cheap_column(), 1);
+    // Of eighteen sides, seven are no higher than what lies beyond them.
+    faces_in_any_order_are_the_whole(&heightmap(), 3 + 11);
+    faces_in_any_order_are_the_whole(&heightmap().ready(), 3 + 11);
 }
 
-#[test]
-fn a_face_writes_its_own_places_alone() {
-    let job = column();
+/// Each face is written to its window and to nothing else, and windows lie end to end.
+fn a_face_writes_its_window(job: &impl Job, faces: usize) {
+    assert_eq!(job.faces(), Ok(faces));
     let counts = job.plan().unwrap();
     let (whole, empty) = (
         job.build().unwrap(),
         filled(counts.vertices, counts.indices),
     );
-    let (mut vertex, mut index) = (0, 0);
-    for face in 0..20 {
+    let mut end = Window::default();
+    for face in 0..faces {
         let mut mesh = empty.clone();
         job.build_face(face, &mut mesh.buffers()).unwrap();
-        let written = mesh.vertices.iter().filter(|p| **p != [-77.0; 3]).count();
-        let indices = mesh.indices.iter().filter(|i| **i != 7777).count();
-        let (past, end) = (vertex + written, index + indices);
+        let window = job.window(face).unwrap();
+        let (v, i) = (window.vertices.clone(), window.indices.clone());
+        assert_eq!((v.start, i.start), (end.vertices.end, end.indices.end));
+        assert!(!v.is_empty() && !i.is_empty());
+        let own = |index: &u16| v.contains(&usize::from(*index));
+        assert!(whole.indices[i.clone()].iter().all(own));
         let mut wanted = empty.clone();
-        wanted.vertices[vertex..past].copy_from_slice(&whole.vertices[vertex..past]);
-        wanted.normals[vertex..past].copy_from_slice(&whole.normals[vertex..past]);
-        wanted.uvs[vertex..past].copy_from_slice(&whole.uvs[vertex..past]);
-        wanted.indices[index..end].copy_from_slice(&whole.indices[index..end]);
+        wanted.vertices[v.clone()].copy_from_slice(&whole.vertices[v.clone()]);
+        wanted.normals[v.clone()].copy_from_slice(&whole.normals[v.clone()]);
+        wanted.uvs[v.clone()].copy_from_slice(&whole.uvs[v]);
+        wanted.indices[i.clone()].copy_from_slice(&whole.indices[i]);
         assert_eq!(bits(&mesh), bits(&wanted));
-        (vertex, index) = (past, end);
+        end = window;
     }
-    assert_eq!((vertex, index), (counts.vertices, counts.indices));
+    let all = (counts.vertices, counts.indices);
+    assert_eq!((end.vertices.end, end.indices.end), all);
+    for none in [faces, usize::MAX] {
+        assert_eq!(job.window(none), Err(Refusal::NoFace));
+    }
+}
+
+#[test]
+fn a_face_writes_its_own_places_alone() {
+    a_face_writes_its_window(&column(), 20);
+    a_face_writes_its_window(&heightmap(), 14);
+    a_face_writes_its_window(&heightmap().ready(), 14);
+    a_face_writes_its_window(&plane(), 1);
+    a_face_writes_its_window(&cheap_column(), 1);
+    // No face at all.
+    a_face_writes_its_window(&HeightMap::default(), 0);
 }
 
 fn what_lies_past_the_counts_stays(job: &impl Job) {
@@ -197,6 +219,7 @@ fn longer_lists_keep_what_lies_past_the_counts() {
     what_lies_past_the_counts_stays(&plane());
     what_lies_past_the_counts_stays(&column());
     what_lies_past_the_counts_stays(&cheap_column());
+    what_lies_past_the_counts_stays(&heightmap());
 }
 
 fn vec2([x, y]: [f32; 2]) -> CVec2 {
@@ -321,6 +344,82 @@ fn every_field_of_a_cheap_column_arrives_in_its_place() {
     assert_eq!(bits(&cheap_column().build().unwrap()), bits(&mesh));
 }
 
+/// The cells of [`heightmap`] as the archive documents them: height, position, and the ends of sides.
+fn cells() -> Vec<f32> {
+    let of = |height: f32, x: f32, z: f32| {
+        let mut numbers = vec![height, x, z];
+        for side in 0..6 {
+            let ([a, b], [c, d]) = (CORNERS[side], CORNERS[(side + 1) % 6]);
+            numbers.extend([x + a, z + b, x + c, z + d]);
+        }
+        numbers
+    };
+    [of(8.0, 0.0, 0.0), of(5.0, 3.0, 2.0), of(6.0, 0.0, 4.0)].concat()
+}
+
+/// [`heightmap`] as the archive documents it, with the table of the first eight options.
+fn c_heightmap() -> CHeightMap {
+    let choice = |option| CChoice {
+        given: true,
+        option,
+    };
+    CHeightMap {
+        caps: choice(2),
+        sides: choice(0),
+        customs: true,
+        fringe: 2,
+        range: CRange {
+            given: true,
+            min: 1.0,
+            max: 9.0,
+        },
+        origin: COrigin {
+            given: true,
+            at: vec2([80.0, 90.0]),
+        },
+        placement: placement(),
+    }
+}
+
+#[test]
+fn every_field_of_a_map_arrives_in_its_place() {
+    let no = u32::MAX;
+    let neighbours = [
+        [1, 2, no, no, no, no],
+        [no, no, 2, 0, no, no],
+        [no, no, no, no, 0, 1],
+    ];
+    let fringe = [
+        [0.0, 1.0, 2.0, 8.0, 4.0, 5.0],
+        [1.0, 5.0, 2.0, 3.0, 4.0, 9.0],
+        [0.0, 2.0, 6.0, 3.0, 1.0, 1.0],
+    ];
+    let customs = [
+        [3, 1, 255, 2, 255, 255, 4],
+        [255; 7],
+        [255, 255, 5, 255, 255, 6, 7],
+    ];
+    let (numbers, marks) = table();
+    let counts = heightmap().plan().unwrap();
+    let mut mesh = filled(counts.vertices, counts.indices);
+    let answer = hosirekar_heightmap_build(
+        c_heightmap(),
+        &cells(),
+        neighbours.as_flattened(),
+        fringe.as_flattened(),
+        customs.as_flattened(),
+        CORNERS.as_flattened(),
+        &numbers,
+        &marks,
+        mesh.vertices.as_flattened_mut(),
+        mesh.normals.as_flattened_mut(),
+        mesh.uvs.as_flattened_mut(),
+        &mut mesh.indices,
+    );
+    assert_eq!(answer.number, 0);
+    assert_eq!(bits(&heightmap().build().unwrap()), bits(&mesh));
+}
+
 #[test]
 fn what_is_left_out_changes_nothing() {
     let bare = Plane::new(CORNERS);
@@ -338,6 +437,31 @@ fn what_is_left_out_changes_nothing() {
         ..plain
     };
     assert_eq!(moved.build().unwrap().vertices[1], [1.0, 3.0, 2.0]);
+}
+
+#[test]
+fn position_offset_and_origin_are_added_after_the_turn() {
+    // (x, y, z) becomes (x, -z, y), so that z is up.
+    let rotation = Some([[1.0, 0.0, 0.0], [0.0, 0.0, -1.0], [0.0, 1.0, 0.0]]);
+    let offset = Some([1.0, 2.0, 3.0]);
+    let plane = Plane {
+        position: [10.0, 20.0],
+        rotation,
+        offset,
+        ..Plane::new(CORNERS)
+    };
+    let mesh = plane.build().unwrap();
+    assert_eq!(mesh.vertices[1], [1.0 + 11.0, -2.0 + 2.0, 0.0 + 23.0]);
+    assert_eq!(mesh.normals[1], [0.0, 0.0, 1.0]);
+    let map = HeightMap {
+        origin: Some([10.0, 20.0]),
+        rotation,
+        offset,
+        ..HeightMap::new(CORNERS, vec![cell(5.0, [7.0, 8.0])])
+    };
+    // The cell's own position is part of the map and turns with it.
+    let mesh = map.build().unwrap();
+    assert_eq!(mesh.vertices[1], [8.0 + 11.0, -10.0 + 2.0, 5.0 + 23.0]);
 }
 
 /// Options that differ in the sign of their zeros alone, which a u of 0 shows.

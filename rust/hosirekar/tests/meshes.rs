@@ -120,3 +120,98 @@ fn a_mesh_has_its_middles() {
     assert_eq!(triangle().centroid(), Ok([3.0, 4.0, 5.0]));
     assert_eq!(triangle().uv_centroid(), Ok([22.0, 23.0]));
 }
+
+#[test]
+fn adding_a_job_is_merging_its_mesh() {
+    let jobs: [&dyn Job; 5] = [
+        &plane(),
+        &column(),
+        &cheap_column(),
+        &heightmap(),
+        &HeightMap::default(),
+    ];
+    for first in [Mesh::default(), triangle()] {
+        let (mut added, mut merged) = (first.clone(), first);
+        for job in jobs.into_iter().chain(jobs) {
+            let counts = merged.merge_with(&job.build().unwrap());
+            assert_eq!(added.add(job), counts);
+            assert_eq!(bits(&added), bits(&merged));
+        }
+    }
+}
+
+/// A job that builds one vertex, with an index of the caller's choice, or is refused as it builds.
+struct Point(Result<u16, Refusal>);
+
+impl Job for Point {
+    fn plan(&self) -> Result<Counts, Refusal> {
+        Ok(Counts {
+            vertices: 1,
+            indices: 1,
+        })
+    }
+
+    fn faces(&self) -> Result<usize, Refusal> {
+        Ok(1)
+    }
+
+    fn window(&self, _: usize) -> Result<Window, Refusal> {
+        Ok(Window {
+            vertices: 0..1,
+            indices: 0..1,
+        })
+    }
+
+    fn build_into(&self, to: &mut MeshBuffers<'_>) -> Result<Counts, Refusal> {
+        to.indices[0] = self.0?;
+        self.plan()
+    }
+
+    fn build_face(&self, _: usize, to: &mut MeshBuffers<'_>) -> Result<Counts, Refusal> {
+        self.build_into(to)
+    }
+}
+
+fn a_refused_job_is_not_added(mesh: Mesh, job: &dyn Job, why: Refusal) {
+    let mut same = mesh.clone();
+    assert_eq!(same.add(job), Err(why));
+    assert_eq!(bits(&same), bits(&mesh));
+}
+
+#[test]
+fn a_refused_job_leaves_the_mesh_as_it_was() {
+    let mut astray = heightmap();
+    astray.cells[1].neighbours[0] = Some(3);
+    a_refused_job_is_not_added(triangle(), &astray, Refusal::Neighbour);
+    let far = Plane {
+        position: [f32::NAN, 0.0],
+        ..plane()
+    };
+    a_refused_job_is_not_added(triangle(), &far, Refusal::Range);
+    let mut odd = triangle();
+    odd.uvs.pop();
+    a_refused_job_is_not_added(odd, &far, Refusal::Shape);
+    a_refused_job_is_not_added(filled(65_531, 0), &Plane::new(CORNERS), Refusal::Limit);
+    a_refused_job_is_not_added(filled(65_537, 0), &HeightMap::default(), Refusal::Limit);
+    a_refused_job_is_not_added(triangle(), &Point(Ok(1)), Refusal::Index);
+    a_refused_job_is_not_added(triangle(), &Point(Err(Refusal::NoFace)), Refusal::NoFace);
+    let mut mesh = triangle();
+    mesh.add(&Point(Ok(0))).unwrap();
+    assert_eq!(mesh.indices, [2, 0, 1, 3]);
+}
+
+#[test]
+fn a_mesh_is_filled_to_the_limit_by_adding() {
+    let mut mesh = filled(65_530, 0);
+    let full = Counts {
+        vertices: 65_536,
+        indices: 12,
+    };
+    assert_eq!(mesh.add(&Plane::new(CORNERS)), Ok(full));
+    assert_eq!(mesh.indices[..3], [65_530, 65_532, 65_531]);
+    assert_eq!(mesh.add(&HeightMap::default()), Ok(full));
+    let capacity = mesh.vertices.capacity();
+    assert_eq!(mesh.add(&Plane::new(CORNERS)), Err(Refusal::Limit));
+    assert_eq!(mesh.vertices.capacity(), capacity);
+    assert_eq!(mesh.counts(), Ok(full));
+}

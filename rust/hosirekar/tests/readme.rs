@@ -1,8 +1,8 @@
-//! The program that the README shows is the example `column`, line by line but for its first comment
+//! The program that the README shows is the example `heightmap`, line by line but for its first comment
 //! and the mark that keeps its lines as they are.
 
 const README: &str = include_str!("../../../README.md");
-const EXAMPLE: &str = include_str!("../examples/column.rs");
+const EXAMPLE: &str = include_str!("../examples/heightmap.rs");
 
 /// The indented lines of a block, from the first that starts so to the brace that ends it.
 fn shown(first: &str) -> String {

@@ -48,23 +48,57 @@ fn cheap_column_numbers(column: &mut CheapColumn) -> Vec<&mut f32> {
     numbers
 }
 
-/// Each number in turn at its limit, and past it.
-fn every_number_is_tested<J: Job + Copy>(job: J, numbers: fn(&mut J) -> Vec<&mut f32>) {
+/// Every number of a map but its height range, which lends none.
+fn map_numbers(map: &mut HeightMap) -> Vec<&mut f32> {
+    let mut numbers: Vec<&mut f32> = map.cap_corners.as_flattened_mut().iter_mut().collect();
+    for cell in &mut map.cells {
+        numbers.push(&mut cell.height);
+        numbers.extend(&mut cell.position);
+        numbers.extend(cell.side_ends.as_flattened_mut().as_flattened_mut());
+    }
+    if let Fringe::Heights(heights) = &mut map.fringe {
+        numbers.extend(heights.as_flattened_mut());
+    }
+    for own in map.custom_options.iter_mut().flatten() {
+        numbers.extend(own.cap.iter_mut().flat_map(option_numbers));
+        numbers.extend(own.sides.iter_mut().flatten().flat_map(option_numbers));
+    }
+    numbers.extend(map.caps.iter_mut().flat_map(option_numbers));
+    numbers.extend(map.sides.iter_mut().flat_map(option_numbers));
+    numbers.extend(map.origin.as_mut().unwrap());
+    numbers.extend(map.scale.as_mut().unwrap());
+    numbers.extend(map.rotation.as_mut().unwrap().as_flattened_mut());
+    numbers.extend(map.offset.as_mut().unwrap());
+    numbers
+}
+
+/// Each number in turn at its limit, and past it. At the limit a map may have other walls.
+fn every_number_is_tested<J: Job + Clone>(
+    job: J,
+    counts_stay: bool,
+    numbers: fn(&mut J) -> Vec<&mut f32>,
+) {
     let counts = job.plan().unwrap();
     let fresh = filled(counts.vertices, counts.indices);
     let past = f32::from_bits(1_000_000f32.to_bits() + 1);
     for k in 0..numbers(&mut job.clone()).len() {
         let with = |x| {
-            let mut changed = job;
+            let mut changed = job.clone();
             *numbers(&mut changed)[k] = x;
             changed
         };
         for x in [1_000_000.0, -1_000_000.0, -0.0] {
-            assert_eq!(with(x).plan(), Ok(counts));
+            assert_eq!(with(x).out_of_range(), None);
+            let planned = with(x).plan().unwrap();
+            assert!(planned == counts || !counts_stay);
         }
         for x in [past, -past, f32::INFINITY, f32::NEG_INFINITY, f32::NAN] {
             let (job, mut mesh) = (with(x), fresh.clone());
             assert_eq!(job.plan(), Err(Refusal::Range));
+            assert_eq!(job.faces(), Err(Refusal::Range));
+            assert_eq!(job.window(99), Err(Refusal::Range));
+            let value = job.out_of_range().map(|stray| stray.value.to_bits());
+            assert_eq!(value, Some(x.to_bits()));
             assert!(matches!(job.build(), Err(Refusal::Range)));
             assert_eq!(job.build_into(&mut mesh.buffers()), Err(Refusal::Range));
             // The range is tested before the face's number.
@@ -74,18 +108,147 @@ fn every_number_is_tested<J: Job + Copy>(job: J, numbers: fn(&mut J) -> Vec<&mut
     }
 }
 
+/// What each number is called where it is out of range, in the order of the list.
+fn names<J: Job + Clone>(job: &J, numbers: fn(&mut J) -> Vec<&mut f32>) -> Vec<String> {
+    let count = numbers(&mut job.clone()).len();
+    let name = |k: usize| {
+        let mut changed = job.clone();
+        *numbers(&mut changed)[k] = f32::INFINITY;
+        changed.out_of_range().unwrap().field
+    };
+    (0..count).map(name).collect()
+}
+
+fn all_differ(names: &[String]) -> bool {
+    let mut sorted = names.to_vec();
+    sorted.sort();
+    sorted.windows(2).all(|two| two[0] != two[1])
+}
+
+#[test]
+fn a_number_of_a_plane_out_of_range_is_named() {
+    let plane = names(&plane(), plane_numbers);
+    assert!(all_differ(&plane));
+    let some = [0, 5, 13, 14, 17, 18, 21, 22, 23, 25, 26, 34, 37].map(|k| plane[k].as_str());
+    let wanted = [
+        "corners[0][0]",
+        "corners[2][1]",
+        "position[1]",
+        "options.uv.scale_factor[0]",
+        "options.uv.offset[1]",
+        "options.uv.rect.min[0]",
+        "options.uv.rect.max[1]",
+        "options.insetting.scale",
+        "scale[0]",
+        "scale[2]",
+        "rotation[0][0]",
+        "rotation[2][2]",
+        "offset[2]",
+    ];
+    assert_eq!(some, wanted);
+}
+
+#[test]
+fn a_number_of_a_column_out_of_range_is_named() {
+    let column = names(&column(), column_numbers);
+    assert!(all_differ(&column));
+    let some = [0, 7, 23, 24, 36, 37, 53].map(|k| column[k].as_str());
+    let wanted = [
+        "side_ends[0][0][0]",
+        "side_ends[1][1][1]",
+        "side_ends[5][1][1]",
+        "height",
+        "cap_corners[5][1]",
+        "sides[0].uv.scale_factor[0]",
+        "sides[1].insetting.scale",
+    ];
+    assert_eq!(some, wanted);
+    for name in ["top.uv.offset[0]", "bottom.insetting.scale", "position[0]"] {
+        assert!(column.iter().any(|own| own == name));
+    }
+    let cheap = names(&cheap_column(), cheap_column_numbers);
+    assert!(all_differ(&cheap));
+    assert_eq!(
+        cheap[11..],
+        ["corners[5][1]", "centre[0]", "centre[1]", "height"]
+    );
+}
+
+#[test]
+fn a_number_of_a_map_out_of_range_is_named() {
+    let map = names(&heightmap(), map_numbers);
+    assert!(all_differ(&map));
+    let some = [11, 12, 14, 15, 38, 39, 92, 93, 110, 111].map(|k| map[k].as_str());
+    let wanted = [
+        "cap_corners[5][1]",
+        "cells[0].height",
+        "cells[0].position[1]",
+        "cells[0].side_ends[0][0][0]",
+        "cells[0].side_ends[5][1][1]",
+        "cells[1].height",
+        "cells[2].side_ends[5][1][1]",
+        "fringe[0][0]",
+        "fringe[2][5]",
+        "custom_options[0].cap.uv.scale_factor[0]",
+    ];
+    assert_eq!(some, wanted);
+    for name in [
+        "custom_options[2].sides[4].insetting.scale",
+        "caps.uv.rect.max[0]",
+        "sides.uv.offset[1]",
+        "origin[0]",
+        "scale[1]",
+        "rotation[1][2]",
+        "offset[0]",
+    ] {
+        assert!(map.iter().any(|own| own == name), "{name}");
+    }
+    for (range, name) in [
+        (f32::NAN..=1.0, "height_range.start"),
+        (0.0..=2e6, "height_range.end"),
+    ] {
+        let map = HeightMap {
+            height_range: Some(range),
+            ..heightmap()
+        };
+        assert_eq!(map.out_of_range().unwrap().field, name);
+        assert_eq!(map.ready().out_of_range().unwrap().field, name);
+    }
+}
+
+#[test]
+fn what_is_not_given_is_not_out_of_range() {
+    let mut map = heightmap();
+    map.caps.as_mut().unwrap().uv.offset[0] = f32::NAN;
+    assert_eq!(map.out_of_range().unwrap().field, "caps.uv.offset[0]");
+    map.caps = None;
+    assert_eq!((map.out_of_range(), map.plan().err()), (None, None));
+    assert_eq!(Boast(Counts::default()).out_of_range(), None);
+    let mut stray = heightmap();
+    stray.cells[2].height = -2_000_000.5;
+    let words = "cells[2].height is -2000000.5: make it finite and at most 1,000,000 either way";
+    assert_eq!(stray.out_of_range().unwrap().to_string(), words);
+}
+
 #[test]
 fn every_number_of_a_job_is_tested() {
-    every_number_is_tested(plane(), plane_numbers);
-    every_number_is_tested(column(), column_numbers);
-    every_number_is_tested(cheap_column(), cheap_column_numbers);
+    every_number_is_tested(plane(), true, plane_numbers);
+    every_number_is_tested(column(), true, column_numbers);
+    every_number_is_tested(cheap_column(), true, cheap_column_numbers);
+    every_number_is_tested(heightmap(), false, map_numbers);
+    let off = HeightMap {
+        caps: None,
+        sides: None,
+        ..heightmap()
+    };
+    every_number_is_tested(off, true, map_numbers);
     let bare = Column {
         sides: [None; 6],
         top: None,
         bottom: None,
         ..column()
     };
-    every_number_is_tested(bare, column_numbers);
+    every_number_is_tested(bare, true, column_numbers);
 }
 
 #[test]
@@ -100,6 +263,8 @@ fn too_many_vertices_are_refused_after_numbers_and_before_faces_and_room() {
         tall.build_face(usize::MAX, &mut mesh.buffers()),
         Err(Refusal::Limit)
     );
+    assert_eq!(tall.faces(), Err(Refusal::Limit));
+    assert_eq!(tall.window(usize::MAX), Err(Refusal::Limit));
     let both = Column {
         height: f32::NAN,
         ..tall
@@ -134,6 +299,7 @@ fn a_list_one_short_is_refused_and_left_as_it_was() {
     one_short_is_refused(&plane(), 1);
     one_short_is_refused(&column(), 20);
     one_short_is_refused(&cheap_column(), 1);
+    one_short_is_refused(&heightmap(), 14);
 }
 
 #[test]
@@ -222,6 +388,14 @@ impl Job for Boast {
         Ok(self.0)
     }
 
+    fn faces(&self) -> Result<usize, Refusal> {
+        Ok(1)
+    }
+
+    fn window(&self, _: usize) -> Result<Window, Refusal> {
+        Ok(Window::default())
+    }
+
     fn build_into(&self, _: &mut MeshBuffers<'_>) -> Result<Counts, Refusal> {
         Ok(self.0)
     }
@@ -307,6 +481,7 @@ fn lists_of_any_lengths_are_answered() {
                     every_job_is_answered(&mesh, &plane());
                     every_job_is_answered(&mesh, &column());
                     every_job_is_answered(&mesh, &cheap_column());
+                    every_job_is_answered(&mesh, &heightmap());
                 }
             }
         }

@@ -108,6 +108,54 @@ pub fn cheap_column() -> CheapColumn {
     }
 }
 
+/// A cell at that place, no side of which has a neighbour.
+pub fn cell(height: f32, [x, z]: [f32; 2]) -> Cell {
+    let corner = |k: usize| [x + CORNERS[k % 6][0], z + CORNERS[k % 6][1]];
+    Cell {
+        height,
+        position: [x, z],
+        side_ends: std::array::from_fn(|side| [corner(side), corner(side + 1)]),
+        neighbours: [None; 6],
+    }
+}
+
+/// Three cells about one corner, each with options of its own in part, and everything given.
+pub fn heightmap() -> HeightMap {
+    let mut cells = vec![
+        cell(8.0, [0.0, 0.0]),
+        cell(5.0, [3.0, 2.0]),
+        cell(6.0, [0.0, 4.0]),
+    ];
+    cells[0].neighbours = [Some(1), Some(2), None, None, None, None];
+    cells[1].neighbours = [None, None, Some(2), Some(0), None, None];
+    cells[2].neighbours = [None, None, None, None, Some(0), Some(1)];
+    let custom = |cap: Option<u8>, sides: [Option<u8>; 6]| CellOptions {
+        cap: cap.map(options),
+        sides: sides.map(|side| side.map(options)),
+    };
+    let customs = vec![
+        custom(Some(3), [Some(1), None, Some(2), None, None, Some(4)]),
+        CellOptions::default(),
+        custom(None, [None, Some(5), None, None, Some(6), Some(7)]),
+    ];
+    HeightMap {
+        caps: Some(options(2)),
+        sides: Some(options(0)),
+        custom_options: Some(customs),
+        fringe: Fringe::Heights(vec![
+            [0.0, 1.0, 2.0, 8.0, 4.0, 5.0],
+            [1.0, 5.0, 2.0, 3.0, 4.0, 9.0],
+            [0.0, 2.0, 6.0, 3.0, 1.0, 1.0],
+        ]),
+        height_range: Some(1.0..=9.0),
+        origin: Some([80.0, 90.0]),
+        scale: Some(SCALE),
+        rotation: Some(ROTATION),
+        offset: Some(OFFSET),
+        ..HeightMap::new(CORNERS, cells)
+    }
+}
+
 /// A generator of the tests' own (xorshift), so that an order can be shuffled again the same way.
 pub struct Random(pub u64);
 
