@@ -100,6 +100,9 @@ face-uv-mapping-wrap-uv κs a x y v w p q = (determined p q, refl)
 pub face-uv-mapping-wrap-six : Fixes face.uv_mapping.wrap_six.ended face.uv_mapping.wrap_six.Reads.Learnt
 face-uv-mapping-wrap-six κs a x y v w p q = (determined p q, refl)
 
+pub face-inset-is-none : Fixes face.inset.is_none.ended face.inset.is_none.Reads.Learnt
+face-inset-is-none κs a x y v w p q = (determined p q, refl)
+
 pub face-vec-add2 : Fixes face.vec.add2.ended face.vec.add2.Reads.Learnt
 face-vec-add2 κs a x y v w p q = (determined p q, refl)
 
@@ -266,6 +269,21 @@ buffers-laying-lay-wall κs a x y v w p q = let e = determined p q in (refl, λ 
 
 pub buffers-laying-lay-hexagon : Fixes buffers.laying.lay_hexagon.ended buffers.laying.lay_hexagon.Reads.Learnt
 buffers-laying-lay-hexagon κs a x y v w p q = let e = determined (p .1) (q .1) in (determined (p .0) (q .0), λ i. (tt, (tt, (tt, (tt, (e i .vertices, (e i .normals, (e i .uvs, (e i .indices, tt)))))))))
+
+pub buffers-laying-lay-plain-quad : Fixes buffers.laying.lay_plain_quad.ended buffers.laying.lay_plain_quad.Reads.Learnt
+buffers-laying-lay-plain-quad κs a x y v w p q = let e = determined p q in (refl, λ i. (tt, (tt, (e i .vertices, (e i .normals, (e i .uvs, (e i .indices, tt)))))))
+
+pub buffers-laying-lay-plain-hexagon : Fixes buffers.laying.lay_plain_hexagon.ended buffers.laying.lay_plain_hexagon.Reads.Learnt
+buffers-laying-lay-plain-hexagon κs a x y v w p q = let e = determined p q in (refl, λ i. (tt, (tt, (e i .vertices, (e i .normals, (e i .uvs, (e i .indices, tt)))))))
+
+pub buffers-plain-shift-quad : Fixes buffers.plain.shift_quad.ended buffers.plain.shift_quad.Reads.Learnt
+buffers-plain-shift-quad κs a x y v w p q = (determined p q, refl)
+
+pub buffers-plain-stand-quad : Fixes buffers.plain.stand_quad.ended buffers.plain.stand_quad.Reads.Learnt
+buffers-plain-stand-quad κs a x y v w p q = (determined p q, refl)
+
+pub buffers-plain-stand-hexagon : Fixes buffers.plain.stand_hexagon.ended buffers.plain.stand_hexagon.Reads.Learnt
+buffers-plain-stand-hexagon κs a x y v w p q = (determined p q, refl)
 
 -- ---- mesh
 pub mesh-stored-holds-counts : Fixes mesh.stored.holds_counts.ended mesh.stored.holds_counts.Reads.Learnt
@@ -540,6 +558,12 @@ heightmap-faces-kept-level-by κs a x y v w p q = (determined p q, refl)
 
 pub heightmap-faces-level-of : Fixes heightmap_faces.level_of.ended heightmap_faces.level_of.Reads.Learnt
 heightmap-faces-level-of κs a x y v w p q = (determined p q, refl)
+
+pub heightmap-faces-kept-keep-top : Fixes heightmap_faces.kept.keep_top.ended heightmap_faces.kept.keep_top.Reads.Learnt
+heightmap-faces-kept-keep-top κs a x y v w p q = (determined p q, refl)
+
+pub heightmap-faces-kept-top-among : Fixes heightmap_faces.kept.top_among.ended heightmap_faces.kept.top_among.Reads.Learnt
+heightmap-faces-kept-top-among κs a x y v w p q = (determined p q, refl)
 
 -- ---- heightmap_laying
 pub heightmap-laying-put-all : Fixes heightmap_laying.put_all.ended heightmap_laying.put_all.Reads.Learnt
