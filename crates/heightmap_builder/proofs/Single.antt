@@ -31,14 +31,7 @@ use Rattle.heightmap_plan.specs.declared.tally.Tally.{Tally}
 use Rattle.heightmap_plan.specs.Walking.{tallyBy, tallyOf}
 use Rattle.heightmap_plan.specs.Finding.{foundBy, foundAt}
 use Rattle.heightmap.proofs.Faces.{passes}
-use Rattle.heightmap_builder.proofs.Whole.{planned-few}
-
--- faces of the same sizes start at the same places
-starts-alike : (f g : Name → Mesh) → ((n : Name) → sizeOf (f n) ≡ sizeOf (g n)) → (ns : List Name) (k : ℕ) → startOf (map f ns) k ≡ startOf (map g ns) k
-starts-alike f g h [] zero = refl
-starts-alike f g h [] (suc k) = refl
-starts-alike f g h (n ∷ ns) zero = refl
-starts-alike f g h (n ∷ ns) (suc k) = ap₂ also (h n) (starts-alike f g h ns k)
+use Rattle.heightmap_plan.proofs.Telling.{planned-few, found-so, start-so}
 
 module _ (job : HeightMap) (g : Grid) (us : List ℕ) (ps xs : List Float) (ms : List ℕ) where
   abbrev bare : Lists
@@ -47,34 +40,15 @@ module _ (job : HeightMap) (g : Grid) (us : List ℕ) (ps xs : List Float) (ms :
   abbrev whole : Lists
   whole = lists g us ps xs ms
 
-  -- the size of a face has no use for the cap corners
-  size-alike : (n : Name) → sizeOf (meshOf job bare n) ≡ sizeOf (meshOf job whole n)
-  size-alike (Cap k) = size-of job bare (Cap k) ∙ sym (size-of job whole (Cap k))
-  size-alike (Side k d) = size-of job bare (Side k d) ∙ sym (size-of job whole (Side k d))
-
-  -- a plan that is done has not too many cells, so its faces are counted
-  pub named-alike : (k : ℕ) (t : Tally) → t ≡ tallyOf job bare → named (planned job whole) k (t .faces) ≡ named (planned job whole) k (length (mapFaces job whole))
-  named-alike k t e = go (planned job whole) (planned-few job whole)
-    where
-      go : (a : Answer) → ((d : Counts) → a ≡ Done d → cellCount (cellsIn (g .cells)) ≡ true) → named a k (t .faces) ≡ named a k (length (mapFaces job whole))
-      go (Refused why) h = refl
-      go (Done d) h =
-          ap (named (Done d) k)
-          (ap (λ (x : Tally). x .faces) e
-          ∙ counted (h d refl)
-          ∙ sym (length-map (mapNames job g) (meshOf job whole)))
-        where
-          counted : cellCount (cellsIn (g .cells)) ≡ true → tallyOf job bare .faces ≡ length (mapNames job g)
-          counted c = rw c refl
-
   pub face-laid : (k : ℕ) (B : Buffers) (d : Counts) (found : Found) → faceAnswer job whole k B ≡ Done d → found ≡ foundAt job bare k
       → laidIfFits (meshOf job whole (found .name)) (found .start) B ≡ layOne (mapFaces job whole) k none B
   face-laid k B d found e f =
       let r = face-room (checked job whole) (mapFaces job whole) (passes job whole) k B d e in
       let p = named-done (planned job whole) d k (length (mapFaces job whole)) (roomed-done (named (planned job whole) k (length (mapFaces job whole))) d _ _ _ _ e .0) .0 in
+      let few = planned-few job g us ps xs ms d p in
       let n : Name = nameAt job g k in
-      let x : found ≡ foundBy n (startBy job bare k) = f ∙ ap (λ (b : Bool). cond b (foundBy n (startBy job bare k)) (foundBy (Cap 0) none)) (planned-few job whole d p) in
       let l : k < length (mapNames job g) = omega (arith, r .1, length-map (mapNames job g) (meshOf job whole)) in
-      ap (λ (y : Found). laidIfFits (meshOf job whole (y .name)) (y .start) B) x
-      ∙ ap (λ (c : Counts). laidIfFits (meshOf job whole n) c B) (starts-alike (meshOf job bare) (meshOf job whole) size-alike (mapNames job g) k)
+      ap₂ (λ (x : Name) (c : Counts). laidIfFits (meshOf job whole x) c B)
+      (ap (λ (y : Found). y .name) (found-so job g us ps xs ms k found f few))
+      (start-so job g us ps xs ms k found f few)
       ∙ stands-laid (meshOf job whole) (mapNames job g) k n B (stands-at (mapNames job g) k (Cap 0) l) (r .0)

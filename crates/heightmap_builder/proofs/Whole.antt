@@ -16,22 +16,16 @@ use Rattle.heightmap.specs.HeightMap.{Lists, mapFaces}
 use Rattle.heightmap.specs.Tests.{gridShape, shapeOf, checked, planned}
 use Rattle.heightmap.specs.Calls.{wholeAnswer}
 use Rattle.heightmap.proofs.Faces.{passes}
+use Rattle.heightmap_plan.proofs.Deciding.{few-cells}
 use Rattle.heightmap_laying.specs.Shared.{allLaid}
 
-and-first : (a b : Bool) → (a && b) ≡ true → a ≡ true
-and-first true b e = refl
-and-first false b e = e
-
 module _ (job : HeightMap) (ls : Lists) where
-  -- ---- what a done answer says: the cells are not too many, and there is room for every face
-  pub planned-few : (d : Counts) → planned job ls ≡ Done d → cellCount (cellsIn (ls .grid .cells)) ≡ true
-  planned-few d e = and-first _ _ (and-first (gridShape job (ls .grid)) _ (given-done (shapeOf job ls) Shape _ e .0))
-
+  -- ---- what a done answer says: there is room for every face
   pub whole-ready : (B : Buffers) (d : Counts) → wholeAnswer job ls B ≡ Done d → fits none (measure (mapFaces job ls)) B ≡ true
   whole-ready = whole-room (checked job ls) (mapFaces job ls) (passes job ls)
 
   -- so that all of them are laid
   pub whole-laid : (B : Buffers) (d : Counts) → wholeAnswer job ls B ≡ Done d → allLaid job ls B ≡ layAll (mapFaces job ls) none B
   whole-laid B d e =
-      ap (λ (b : Bool). cond b (layEach (mapFaces job ls) none B) B) (planned-few d (roomed-done (planned job ls) d _ _ _ _ e .0))
+      ap (λ (b : Bool). cond b (layEach (mapFaces job ls) none B) B) (few-cells job ls (given-done (shapeOf job ls) Shape _ (roomed-done (planned job ls) d _ _ _ _ e .0) .0))
       ∙ each-all (mapFaces job ls) none B (whole-ready B d e)

@@ -1,14 +1,11 @@
 // Height maps built, after heightmap_builder.rs of hexx: of each cell its cap, then the walls down to what is lower.
 ghost use mathlib.Core.Path.{_≡_};
 ghost use Rattle.buffers.specs.Lent.{entering, become};
-ghost use Rattle.heightmap.specs.HeightMap.{lent, lentForCounts};
+ghost use Rattle.heightmap.specs.HeightMap.{lent};
 ghost use Rattle.heightmap.specs.Tests.{planned};
-ghost use Rattle.heightmap_plan.specs.Finding.{foundAt};
 ghost use Rattle.heightmap.specs.Calls.{wholeAnswer, faceAnswer, built, faced};
-ghost use Rattle.heightmap_builder.specs.Sought.{numbered};
 use answer::answer::Answer;
 use heightmap::HeightMap;
-use heightmap_plan::names::Found;
 
 // The counts of the job, or why it is refused.
 pub fn plan(
@@ -91,55 +88,6 @@ pub fn build(
     }
 }
 
-// What a face call knows before the room is asked for: its answer so far, and the face of the number.
-pub struct Sought {
-    pub answer: Answer,
-    pub found: Found,
-}
-
-fn seek(
-    job: HeightMap,
-    number: usize,
-    cells: &[f32],
-    neighbours: &[u32],
-    fringe: &[f32],
-    customs: &[u8],
-    corners: &[f32],
-    numbers: &[f32],
-    marks: &[u8],
-) -> Sought
-    ensures answer { λ r. ⌜ r .answer ≡ numbered job (lent cells neighbours fringe customs corners numbers marks) number ⌝ }
-    ensures found { λ r. ⌜ r .found ≡ foundAt job (lentForCounts cells neighbours fringe customs numbers marks) number ⌝ }
-{
-    let planned = plan(
-        job,
-        cells,
-        neighbours,
-        fringe,
-        customs,
-        corners,
-        numbers,
-        marks,
-    );
-    let s = heightmap_plan::names::survey_faces(
-        job,
-        number,
-        cells,
-        neighbours,
-        fringe,
-        customs,
-        numbers,
-        marks,
-    );
-    let all = s.all;
-    let found = s.found;
-    let answer = answer::answer::name(planned, number, all.faces);
-    Sought {
-        answer: answer,
-        found: found,
-    }
-}
-
 pub fn face(
     job: HeightMap,
     cells: &[f32],
@@ -158,7 +106,7 @@ pub fn face(
     ensures answer { λ r. ⌜ r ≡ faceAnswer job (lent cells neighbours fringe customs corners numbers marks) number (entering vertices normals uvs indices) ⌝ }
     ensures buffers { λ _. ⌜ become (faced job (lent cells neighbours fringe customs corners numbers marks) number) vertices normals uvs indices ⌝ }
 {
-    let s = seek(
+    let s = heightmap_plan::window::seek(
         job,
         number,
         cells,

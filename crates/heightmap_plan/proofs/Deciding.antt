@@ -17,7 +17,7 @@ use Rattle.heightmap.specs.declared.HeightMap.{HeightMap}
 use Rattle.heightmap.specs.Grid.{cellsIn}
 use Rattle.heightmap.specs.HeightMap.{Lists, mapFaces}
 use Rattle.heightmap.specs.Counts.{mapCounts}
-use Rattle.heightmap.specs.Tests.{fringeShape, gridShape, allNamed, shapeOf, rangeOf, linkedOf, tested, planned}
+use Rattle.heightmap.specs.Tests.{fringeShape, gridShape, allNamed, shapeOf, rangeOf, linkedOf, checked, tested, planned}
 use Rattle.heightmap.proofs.Counts.{map-counts}
 use Rattle.heightmap_plan.specs.declared.tally.Tally.{Tally}
 use Rattle.heightmap_plan.specs.Walking.{tallyOf}
@@ -39,33 +39,49 @@ module _ (job : HeightMap) (ls : Lists) where
   pub all-counted : (t : Tally) → shapeOf job ls ≡ true → t ≡ tallyOf job ls → t .counts ≡ mapCounts job ls
   all-counted t e p = ap (λ (x : Tally). x .counts) p ∙ rw (few-cells e)
 
-  pub misshapen : shapeOf job ls ≡ false → Refused Shape ≡ tested job ls
-  misshapen e = sym (ap (λ (s : Bool). three s (rangeOf job ls) (linkedOf (ls .grid)) (Done (measure (mapFaces job ls)))) e)
+  pub misshapen : (rest : Answer) → shapeOf job ls ≡ false → Refused Shape ≡ checked job ls rest
+  misshapen rest e = sym (ap (λ (s : Bool). three s (rangeOf job ls) (linkedOf (ls .grid)) rest) e)
 
-  pub out-of-range : shapeOf job ls ≡ true → rangeOf job ls ≡ false → Refused Range ≡ tested job ls
-  out-of-range e f = sym (ap₂ (λ (s r : Bool). three s r (linkedOf (ls .grid)) (Done (measure (mapFaces job ls)))) e f)
+  pub out-of-range : (rest : Answer) → shapeOf job ls ≡ true → rangeOf job ls ≡ false → Refused Range ≡ checked job ls rest
+  out-of-range rest e f = sym (ap₂ (λ (s r : Bool). three s r (linkedOf (ls .grid)) rest) e f)
 
-  pub links-decide : shapeOf job ls ≡ true → rangeOf job ls ≡ true → (l : Bool) → linkedOf (ls .grid) ≡ l → given l Neighbour (Done (mapCounts job ls)) ≡ tested job ls
-  links-decide e f l g =
-      ap (λ (c : Counts). given l Neighbour (Done c)) (sym (map-counts job ls))
-      ∙ ap (λ (x : Bool). given x Neighbour (Done (measure (mapFaces job ls)))) (sym g)
-      ∙ sym (ap₂ (λ (s r : Bool). three s r (linkedOf (ls .grid)) (Done (measure (mapFaces job ls)))) e f)
+  pub links-decide : (rest : Answer) → shapeOf job ls ≡ true → rangeOf job ls ≡ true → (l : Bool) → linkedOf (ls .grid) ≡ l → given l Neighbour rest ≡ checked job ls rest
+  links-decide rest e f l g =
+      ap (λ (x : Bool). given x Neighbour rest) (sym g)
+      ∙ sym (ap₂ (λ (s r : Bool). three s r (linkedOf (ls .grid)) rest) e f)
 
-  -- the limit comes after
-  pub refused-before : (e : Refusal) → tested job ls ≡ Refused e → planned job ls ≡ Refused e
-  refused-before e h = go (shapeOf job ls) (rangeOf job ls) (linkedOf (ls .grid)) h
+  -- what is refused so is refused whatever comes after, and what is not is what comes after
+  pub refused-so : (a : Counts) (e : Refusal) → checked job ls (Done a) ≡ Refused e → (rest : Answer) → checked job ls rest ≡ Refused e
+  refused-so a e h rest = go (shapeOf job ls) (rangeOf job ls) (linkedOf (ls .grid)) h
     where
-      go : (s r l : Bool) → three s r l (Done (measure (mapFaces job ls))) ≡ Refused e → three s r l (limited (measure (mapFaces job ls))) ≡ Refused e
+      go : (s r l : Bool) → three s r l (Done a) ≡ Refused e → three s r l rest ≡ Refused e
       go true true true q = not-done (sym q)
       go true true false q = q
       go true false l q = q
       go false r l q = q
 
-  pub limit-decides : (c : Counts) → tested job ls ≡ Done c → limited c ≡ planned job ls
-  limit-decides c h = go (shapeOf job ls) (rangeOf job ls) (linkedOf (ls .grid)) h
+  pub passed-so : (a d : Counts) → checked job ls (Done a) ≡ Done d → (rest : Answer) → checked job ls rest ≡ rest
+  passed-so a d h rest = go (shapeOf job ls) (rangeOf job ls) (linkedOf (ls .grid)) h
     where
-      go : (s r l : Bool) → three s r l (Done (measure (mapFaces job ls))) ≡ Done c → limited c ≡ three s r l (limited (measure (mapFaces job ls)))
-      go true true true q = ap limited (sym (same-counts q))
+      go : (s r l : Bool) → three s r l (Done a) ≡ Done d → three s r l rest ≡ rest
+      go true true true q = refl
       go true true false q = not-done q
       go true false l q = not-done q
       go false r l q = not-done q
+
+  -- the sums, once the tests are passed
+  pub sums-decide : (a d : Counts) (t : Tally) → checked job ls (Done a) ≡ Done d → t ≡ tallyOf job ls → Done (t .counts) ≡ tested job ls
+  sums-decide a d t h p =
+      ap Done (all-counted t (given-done (shapeOf job ls) Shape _ h .0) p ∙ sym (map-counts job ls)) ∙ sym (passed-so a d h (Done (measure (mapFaces job ls))))
+
+  -- the limit comes after
+  pub limit-decides : (c : Counts) → tested job ls ≡ Done c → limited c ≡ planned job ls
+  limit-decides c h = sym (passed-so _ c h (limited (measure (mapFaces job ls))) ∙ ap limited (same-counts (sym (passed-so _ c h (Done (measure (mapFaces job ls)))) ∙ h)))
+
+  -- the sums may come first: where they are not all counted, the shape is refused
+  pub counted-first : (t : Tally) → t ≡ tallyOf job ls → checked job ls (limited (t .counts)) ≡ planned job ls
+  counted-first t p = go (shapeOf job ls) refl
+    where
+      go : (b : Bool) → shapeOf job ls ≡ b → checked job ls (limited (t .counts)) ≡ planned job ls
+      go true e = ap (λ (c : Counts). checked job ls (limited c)) (all-counted t e p ∙ sym (map-counts job ls))
+      go false e = sym (misshapen (limited (t .counts)) e) ∙ misshapen (limited (measure (mapFaces job ls))) e

@@ -30,9 +30,9 @@ use Rattle.heightmap.specs.Calls.{facesTold, windowTold}
 use Rattle.heightmap.proofs.Counts.{size-of}
 use Rattle.heightmap.proofs.Numbering.{start-alike}
 use Rattle.heightmap_plan.specs.declared.names.Found.{Found}
-use Rattle.heightmap_plan.specs.declared.names.Survey.{Survey}
+use Rattle.heightmap_plan.specs.declared.tally.Tally.{Tally}
 use Rattle.heightmap_plan.specs.Walking.{tallyOf}
-use Rattle.heightmap_plan.specs.Finding.{foundBy, surveyOf, faceCount}
+use Rattle.heightmap_plan.specs.Finding.{foundBy, foundAt, faceCount, numbered}
 use Rattle.heightmap_plan.proofs.Deciding.{few-cells}
 
 module _ (job : HeightMap) (g : Grid) (us : List ℕ) (ps xs : List Float) (ms : List ℕ) where
@@ -51,7 +51,7 @@ module _ (job : HeightMap) (g : Grid) (us : List ℕ) (ps xs : List Float) (ms :
   size-by (Cap k) = sym (size-of job whole (Cap k))
   size-by (Side k d) = sym (size-of job whole (Side k d))
 
-  planned-few : (c : Counts) → planned job whole ≡ Done c → cellCount (cellsIn (g .cells)) ≡ true
+  pub planned-few : (c : Counts) → planned job whole ≡ Done c → cellCount (cellsIn (g .cells)) ≡ true
   planned-few c e = few-cells job whole (given-done (shapeOf job whole) Shape _ e .0)
 
   face-total : length (mapNames job g) ≡ length (mapFaces job whole)
@@ -63,35 +63,38 @@ module _ (job : HeightMap) (g : Grid) (us : List ℕ) (ps xs : List Float) (ms :
       (λ c d. ap (λ (b : Bool). cond b (length (mapNames job g)) 0) (planned-few c (sym e ∙ d)) ∙ face-total)
       ∙ ap (λ (x : Answer). facesBy x (length (mapFaces job whole))) e
 
-  -- ---- the survey of a number, where the plan is done
-  module _ (k : ℕ) (s : Survey) (e : s ≡ surveyOf job bare k) where
-    all-faces : cellCount (cellsIn (g .cells)) ≡ true → s .all .faces ≡ length (mapFaces job whole)
-    all-faces f = ap (λ (x : Survey). x .all .faces) e ∙ counted f ∙ face-total
-      where
-        counted : cellCount (cellsIn (g .cells)) ≡ true → tallyOf job bare .faces ≡ length (mapNames job g)
-        counted h = rw h refl
+  -- ---- a number among the faces that the walk counts
+  pub named-so : (k : ℕ) (t : Tally) → t ≡ tallyOf job bare → named (planned job whole) k (t .faces) ≡ numbered job whole k
+  named-so k t e = go (planned job whole) planned-few
+    where
+      counted : cellCount (cellsIn (g .cells)) ≡ true → tallyOf job bare .faces ≡ length (mapNames job g)
+      counted h = rw h refl
 
-    it-found : cellCount (cellsIn (g .cells)) ≡ true → s .found ≡ foundBy (nameAt job g k) (startBy job bare k)
-    it-found f = ap (λ (x : Survey). x .found) e ∙ ap (λ (b : Bool). cond b (foundBy (nameAt job g k) (startBy job bare k)) (foundBy (Cap 0) none)) f
+      go : (a : Answer) → ((c : Counts) → a ≡ Done c → cellCount (cellsIn (g .cells)) ≡ true) → named a k (t .faces) ≡ named a k (length (mapFaces job whole))
+      go (Refused w) h = refl
+      go (Done c) h = ap (named (Done c) k) (ap (λ (x : Tally). x .faces) e ∙ counted (h c refl) ∙ face-total)
 
-    numbered : (a : Answer) → ((c : Counts) → a ≡ Done c → cellCount (cellsIn (g .cells)) ≡ true) → named a k (s .all .faces) ≡ named a k (length (mapFaces job whole))
-    numbered (Refused w) h = refl
-    numbered (Done c) h = ap (named (Done c) k) (all-faces (h c refl))
+  -- ---- the face of a number, where the plan is done
+  module _ (k : ℕ) (found : Found) (e : found ≡ foundAt job bare k) where
+    pub found-so : cellCount (cellsIn (g .cells)) ≡ true → found ≡ foundBy (nameAt job g k) (startBy job bare k)
+    found-so f = e ∙ ap (λ (b : Bool). cond b (foundBy (nameAt job g k) (startBy job bare k)) (foundBy (Cap 0) none)) f
 
-    pub window-found : (a : Answer) (z : Counts) → a ≡ named (planned job whole) k (s .all .faces) → z ≡ sizeBy job options (s .found .name) → windowBy a (s .found .start) z ≡ windowTold job whole k
+    pub start-so : cellCount (cellsIn (g .cells)) ≡ true → found .start ≡ startOf (mapFaces job whole) k
+    start-so f = ap (λ (x : Found). x .start) (found-so f) ∙ start-alike job g us [] ps xs ms k
+
+    pub window-found : (a : Answer) (z : Counts) → a ≡ numbered job whole k → z ≡ sizeBy job options (found .name) → windowBy a (found .start) z ≡ windowTold job whole k
     window-found a z p q =
-        window-same a (s .found .start) (startOf (mapFaces job whole) k) z (sizeOf (faceAt (mapFaces job whole) k)) here
-        ∙ ap (λ (x : Answer). windowBy x (startOf (mapFaces job whole) k) (sizeOf (faceAt (mapFaces job whole) k))) (p ∙ numbered (planned job whole) planned-few)
+        window-same a (found .start) (startOf (mapFaces job whole) k) z (sizeOf (faceAt (mapFaces job whole) k)) here
+        ∙ ap (λ (x : Answer). windowBy x (startOf (mapFaces job whole) k) (sizeOf (faceAt (mapFaces job whole) k))) p
       where
-        here : (c : Counts) → a ≡ Done c → (s .found .start ≡ startOf (mapFaces job whole) k) × (z ≡ sizeOf (faceAt (mapFaces job whole) k))
+        here : (c : Counts) → a ≡ Done c → (found .start ≡ startOf (mapFaces job whole) k) × (z ≡ sizeOf (faceAt (mapFaces job whole) k))
         here c d =
-            let n = named-done (planned job whole) c k (s .all .faces) (sym p ∙ d) in
+            let n = named-done (planned job whole) c k (length (mapFaces job whole)) (sym p ∙ d) in
             let few = planned-few c (n .0) in
-            let f = it-found few in
-            let l : k < length (mapNames job g) = omega (arith, n .1, all-faces few, face-total) in (
-              ap (λ (x : Found). x .start) f ∙ start-alike job g us [] ps xs ms k,
+            let l : k < length (mapNames job g) = omega (arith, n .1, face-total) in (
+              start-so few,
               q
-                  ∙ ap (λ (x : Found). sizeBy job options (x .name)) f
+                  ∙ ap (λ (x : Found). sizeBy job options (x .name)) (found-so few)
                   ∙ size-by (nameAt job g k)
                   ∙ ap sizeOf (sym (face-named (meshOf job whole) (mapNames job g) k (Cap 0) l)),
             )

@@ -1,21 +1,25 @@
 -- Which face a number is and where it starts, guarded by the number of cells so that no sum wraps on lists that are not
--- tested; R16 is a row of docs/TRACE.md. Definitions only.
+-- tested; R12 and R16 are rows of docs/TRACE.md. Definitions only.
 use Prim.Native.Nat.{ℕ}
 use mathlib.Core.Bool.{cond}
-use mathlib.Core.List.{List, map}
+use mathlib.Core.List.{List, [], map}
 use lib.ListN.{length, getD}
 use Rattle.face.specs.declared.triangle.Counts.{Counts}
 use Rattle.face.specs.Lists.{chain}
+use Rattle.answer.specs.declared.answer.Answer.{Answer}
+use Rattle.answer.specs.Answers.{named}
 use Rattle.answer.specs.Checks.{cellCount}
 use Rattle.buffers.specs.Mesh.{none, also, startOf}
 use Rattle.heightmap.specs.declared.Name.{Name}
 use Rattle.heightmap.specs.declared.Name.the-variants.{Cap, Side}
 use Rattle.heightmap.specs.declared.HeightMap.{HeightMap}
 use Rattle.heightmap.specs.Grid.{Grid, cellsIn}
-use Rattle.heightmap.specs.HeightMap.{Lists, sideNames, cellNames, mapNames, meshOf}
+use Rattle.heightmap.specs.HeightMap.{Lists, lists, sideNames, cellNames, mapNames, meshOf, mapFaces}
+use Rattle.heightmap.specs.Tests.{planned}
 use Rattle.heightmap.specs.Names.{nameAt, startBy, numberOf}
 use Rattle.heightmap_plan.specs.declared.names.Found.{Found}
 use Rattle.heightmap_plan.specs.declared.names.Survey.{Survey}
+use Rattle.heightmap_plan.specs.declared.window.Sought.{Sought}
 use Rattle.heightmap_plan.specs.declared.tally.Tally.{Tally}
 use Rattle.heightmap_plan.specs.Walking.{tallyOf}
 
@@ -51,3 +55,11 @@ cellOf (Side k d) = k
 
 abbrev pub numberIn : HeightMap → Grid → Name → ℕ
 numberIn job g n = cond (cellCount (cellOf n)) (numberOf job g n) 0
+
+-- R12: what a face call answers before the room is asked for
+abbrev pub numbered : HeightMap → Lists → ℕ → Answer
+numbered job ls k = named (planned job ls) k (length (mapFaces job ls))
+
+-- with the face of the number, which has no use for the cap corners
+abbrev pub soughtAt : HeightMap → Lists → ℕ → Sought
+soughtAt job ls k = record { answer = numbered job ls k; found = foundAt job (lists (ls .grid) (ls .customs) [] (ls .numbers) (ls .marks)) k }

@@ -8,7 +8,7 @@ ghost use mathlib.Core.Path.{_≡_};
 ghost use mathlib.Core.List.{[]};
 ghost use Rattle.heightmap.specs.Grid.{grid, lentGrid};
 ghost use Rattle.heightmap.specs.HeightMap.{lists, lent};
-ghost use Rattle.heightmap.specs.Tests.{fringeShape, gridShape, customsShape, allNamed, shapeOf, fringeInRange, heightsInRange, originInRange, placeOf, rangeOf, tested, planned};
+ghost use Rattle.heightmap.specs.Tests.{fringeShape, gridShape, customsShape, allNamed, shapeOf, fringeInRange, heightsInRange, originInRange, placeOf, rangeOf, checked, tested, planned};
 use answer::answer::Answer;
 use answer::answer::Refusal;
 use heightmap::Customs;
@@ -160,9 +160,10 @@ fn is_in_range(
     false
 }
 
-// The counts of the job, however great, or why it is refused before they are asked for.
-pub fn test(
+// The tests of 1, 2 and 3, and after them an answer that is handed on.
+pub fn check(
     job: HeightMap,
+    rest: Answer,
     cells: &[f32],
     neighbours: &[u32],
     fringe: &[f32],
@@ -171,7 +172,7 @@ pub fn test(
     numbers: &[f32],
     marks: &[u8],
 ) -> Answer
-    ensures { λ r. ⌜ r ≡ tested job (lent cells neighbours fringe customs corners numbers marks) ⌝ }
+    ensures { λ r. ⌜ r ≡ checked job (lent cells neighbours fringe customs corners numbers marks) rest ⌝ }
 {
     if is_shape(
         job,
@@ -186,23 +187,55 @@ pub fn test(
         if is_in_range(job, cells, fringe, corners, numbers) {
             let n = heightmap::grid::cells_in(cells);
             if answer::check::all_neighbours(neighbours, n) {
-                let all = crate::tally::tally_all(
-                    job,
-                    cells,
-                    neighbours,
-                    fringe,
-                    customs,
-                    numbers,
-                    marks,
-                );
-                let counts = all.counts;
-                return Answer::Done(counts);
+                return rest;
             }
             return Answer::Refused(Refusal::Neighbour);
         }
         return Answer::Refused(Refusal::Range);
     }
     Answer::Refused(Refusal::Shape)
+}
+
+// The counts of the job, however great, or why it is refused before they are asked for.
+pub fn test(
+    job: HeightMap,
+    cells: &[f32],
+    neighbours: &[u32],
+    fringe: &[f32],
+    customs: &[u8],
+    corners: &[f32],
+    numbers: &[f32],
+    marks: &[u8],
+) -> Answer
+    ensures { λ r. ⌜ r ≡ tested job (lent cells neighbours fringe customs corners numbers marks) ⌝ }
+{
+    let answer = check(
+        job,
+        Answer::Done(crate::tally::zero()),
+        cells,
+        neighbours,
+        fringe,
+        customs,
+        corners,
+        numbers,
+        marks,
+    );
+    match answer {
+        Answer::Refused(why) => Answer::Refused(why),
+        Answer::Done(_) => {
+            let all = crate::tally::tally_all(
+                job,
+                cells,
+                neighbours,
+                fringe,
+                customs,
+                numbers,
+                marks,
+            );
+            let counts = all.counts;
+            Answer::Done(counts)
+        }
+    }
 }
 
 // The counts of the job, or why it is refused.

@@ -39,7 +39,7 @@ pub struct Walls {
     pub before: usize,
 }
 
-fn zero() -> Counts
+pub(crate) fn zero() -> Counts
     ensures { λ r. ⌜ r ≡ none ⌝ }
 {
     Counts {

@@ -3,6 +3,9 @@ ghost use mathlib.Core.Path.{_≡_};
 ghost use Rattle.heightmap.specs.HeightMap.{lent, lentForOptions};
 ghost use Rattle.heightmap.specs.Counts.{sizeBy};
 ghost use Rattle.heightmap.specs.Calls.{facesTold, windowTold};
+ghost use Rattle.heightmap_plan.specs.Finding.{soughtAt};
+use crate::names::Found;
+use answer::answer::Answer;
 use face::triangle::Counts;
 use heightmap::HeightMap;
 use heightmap::Name;
@@ -47,7 +50,59 @@ fn size_of(job: HeightMap, name: Name, customs: &[u8], numbers: &[f32], marks: &
     }
 }
 
-// The places of a face, by its number: one walk for the plan, and one that finds the face.
+// What is known of a number before any room is asked for: the answer so far, and the face.
+pub struct Sought {
+    pub answer: Answer,
+    pub found: Found,
+}
+
+// The plan, the number and its face in one walk: it comes first, and what it counts on lists that are then refused is
+// not told.
+pub fn seek(
+    job: HeightMap,
+    number: usize,
+    cells: &[f32],
+    neighbours: &[u32],
+    fringe: &[f32],
+    customs: &[u8],
+    corners: &[f32],
+    numbers: &[f32],
+    marks: &[u8],
+) -> Sought
+    ensures { λ r. ⌜ r ≡ soughtAt job (lent cells neighbours fringe customs corners numbers marks) number ⌝ }
+{
+    let s = crate::names::survey_faces(
+        job,
+        number,
+        cells,
+        neighbours,
+        fringe,
+        customs,
+        numbers,
+        marks,
+    );
+    let all = s.all;
+    let found = s.found;
+    let counts = all.counts;
+    let planned = crate::check(
+        job,
+        answer::answer::limit(counts),
+        cells,
+        neighbours,
+        fringe,
+        customs,
+        corners,
+        numbers,
+        marks,
+    );
+    let answer = answer::answer::name(planned, number, all.faces);
+    Sought {
+        answer: answer,
+        found: found,
+    }
+}
+
+// The places of a face, by its number.
 pub fn window(
     job: HeightMap,
     cells: &[f32],
@@ -61,8 +116,9 @@ pub fn window(
 ) -> Window
     ensures { λ r. ⌜ r ≡ windowTold job (lent cells neighbours fringe customs corners numbers marks) number ⌝ }
 {
-    let planned = crate::plan(
+    let s = seek(
         job,
+        number,
         cells,
         neighbours,
         fringe,
@@ -71,20 +127,9 @@ pub fn window(
         numbers,
         marks,
     );
-    let s = crate::names::survey_faces(
-        job,
-        number,
-        cells,
-        neighbours,
-        fringe,
-        customs,
-        numbers,
-        marks,
-    );
-    let all = s.all;
+    let answer = s.answer;
     let found = s.found;
     let name = found.name;
     let start = found.start;
-    let answer = answer::answer::name(planned, number, all.faces);
     mesh::windows::window_if_done(answer, start, size_of(job, name, customs, numbers, marks))
 }

@@ -573,6 +573,9 @@ pub heightmap-laying-put-named : Fixes heightmap_laying.put_named.ended heightma
 heightmap-laying-put-named κs a x y v w p q = let e = determined p q in (refl, λ i. (tt, (tt, (tt, (tt, (tt, (tt, (tt, (tt, (tt, (tt, (e i .vertices, (e i .normals, (e i .uvs, (e i .indices, tt)))))))))))))))
 
 -- ---- heightmap_plan
+pub heightmap-plan-check : Fixes heightmap_plan.check.ended heightmap_plan.check.Reads.Learnt
+heightmap-plan-check κs a x y v w p q = (determined p q, refl)
+
 pub heightmap-plan-test : Fixes heightmap_plan.test.ended heightmap_plan.test.Reads.Learnt
 heightmap-plan-test κs a x y v w p q = (determined p q, refl)
 
@@ -599,6 +602,9 @@ heightmap-plan-names-number-of κs a x y v w p q = (determined p q, refl)
 
 pub heightmap-plan-window-faces : Fixes heightmap_plan.window.faces.ended heightmap_plan.window.faces.Reads.Learnt
 heightmap-plan-window-faces κs a x y v w p q = (determined p q, refl)
+
+pub heightmap-plan-window-seek : Fixes heightmap_plan.window.seek.ended heightmap_plan.window.seek.Reads.Learnt
+heightmap-plan-window-seek κs a x y v w p q = (determined p q, refl)
 
 pub heightmap-plan-window-window : Fixes heightmap_plan.window.window.ended heightmap_plan.window.window.Reads.Learnt
 heightmap-plan-window-window κs a x y v w p q = (determined p q, refl)

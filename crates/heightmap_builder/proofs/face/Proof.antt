@@ -9,6 +9,7 @@ use Rattle.mesh.specs.Jobs.{roomedIn}
 use Rattle.heightmap.specs.Grid.{grid}
 use Rattle.heightmap.specs.HeightMap.{lists, mapFaces}
 use Rattle.heightmap.specs.Calls.{faceAnswer}
+use Rattle.heightmap_plan.specs.declared.window.Sought.{Sought}
 use Rattle.heightmap_builder.proofs.Single.{face-laid}
 use Rattle.heightmap_builder.proofs.face.Statement.{statement}
 use Rattle.heightmap_builder.proofs.face.Tie as tie
@@ -26,7 +27,7 @@ face-spec =
     let a = c .before .before .before .before .before .before .before .before .before .before .before .before .before .before .before .before .before .args in
     let X = four (now (a .vertices)) (now (a .normals)) (now (a .uvs)) (now (a .indices)) in
     let ls = lists (grid (now (a .cells)) (now (a .neighbours)) (now (a .fringe))) (now (a .customs)) (now (a .corners)) (now (a .numbers)) (now (a .marks)) in
-    let e = sym (c .before .before .before .room .ensures ∙ ap (roomedIn X) (c .before .before .before .before .before .seek .ensures .0)) ∙ c .before .roomed .given .1 in
+    let e = sym (c .before .before .before .room .ensures ∙ ap (roomedIn X) (ap (λ (x : Sought). x .answer) (c .before .before .before .before .before .seek .ensures))) ∙ c .before .roomed .given .1 in
     (sym e, after-refused (faceAnswer (a .job) ls (a .number) X) X (layOne (mapFaces (a .job) ls) (a .number) none X) e))
     (λ c. search needs)
     (λ c. search needs)
@@ -36,5 +37,5 @@ face-spec =
     let a = c .before .before .before .before .before .before .before .before .before .before .before .before .before .before .before .before .before .before .before .before .before .before .before .before .before .before .before .before .before .before .before .args in
     let X = four (now (a .vertices)) (now (a .normals)) (now (a .uvs)) (now (a .indices)) in
     let ls = lists (grid (now (a .cells)) (now (a .neighbours)) (now (a .fringe))) (now (a .customs)) (now (a .corners)) (now (a .numbers)) (now (a .marks)) in
-    let e = sym (c .before .before .before .before .before .before .before .before .before .before .before .before .before .before .before .before .before .room .ensures ∙ ap (roomedIn X) (c .before .before .before .before .before .before .before .before .before .before .before .before .before .before .before .before .before .before .before .seek .ensures .0)) ∙ c .before .before .before .before .before .before .before .before .before .before .before .before .before .before .before .roomed2 .given .1 in
-    (sym e, c .before .before .before .before .before .before .before .before .put-named .ensures ∙ face-laid (a .job) (grid (now (a .cells)) (now (a .neighbours)) (now (a .fringe))) (now (a .customs)) (now (a .corners)) (now (a .numbers)) (now (a .marks)) (a .number) X _ (c .before .before .before .before .before .before .before .before .before .before .before .before .before .before .before .before .before .before .before .seek .result .found) e (c .before .before .before .before .before .before .before .before .before .before .before .before .before .before .before .before .before .before .before .seek .ensures .1) ∙ after-done (faceAnswer (a .job) ls (a .number) X) X (layOne (mapFaces (a .job) ls) (a .number) none X) e)))
+    let e = sym (c .before .before .before .before .before .before .before .before .before .before .before .before .before .before .before .before .before .room .ensures ∙ ap (roomedIn X) (ap (λ (x : Sought). x .answer) (c .before .before .before .before .before .before .before .before .before .before .before .before .before .before .before .before .before .before .before .seek .ensures))) ∙ c .before .before .before .before .before .before .before .before .before .before .before .before .before .before .before .roomed2 .given .1 in
+    (sym e, c .before .before .before .before .before .before .before .before .put-named .ensures ∙ face-laid (a .job) (grid (now (a .cells)) (now (a .neighbours)) (now (a .fringe))) (now (a .customs)) (now (a .corners)) (now (a .numbers)) (now (a .marks)) (a .number) X _ (c .before .before .before .before .before .before .before .before .before .before .before .before .before .before .before .before .before .before .before .seek .result .found) e (ap (λ (x : Sought). x .found) (c .before .before .before .before .before .before .before .before .before .before .before .before .before .before .before .before .before .before .before .seek .ensures)) ∙ after-done (faceAnswer (a .job) ls (a .number) X) X (layOne (mapFaces (a .job) ls) (a .number) none X) e)))

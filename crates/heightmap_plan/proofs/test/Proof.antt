@@ -1,12 +1,10 @@
--- `test`: the shape, then the numbers, then the neighbours. Assumes nothing.
+-- `test`: the tests, then the sums. Assumes nothing.
 use borrow.Author.Needs.{needs}
-use mathlib.Core.Bool.{true, false}
-use mathlib.Core.Path.{sym, ap, _∙_}
+use mathlib.Core.Path.{sym, _∙_}
 use denote.Ref.{now}
-use Rattle.answer.specs.declared.answer.Answer.the-variants.{Done}
 use Rattle.heightmap.specs.Grid.{grid}
 use Rattle.heightmap.specs.HeightMap.{lists}
-use Rattle.heightmap_plan.proofs.Deciding.{all-counted, misshapen, out-of-range, links-decide}
+use Rattle.heightmap_plan.proofs.Deciding.{refused-so, sums-decide}
 use Rattle.heightmap_plan.proofs.test.Statement.{statement}
 use Rattle.heightmap_plan.proofs.test.Tie as tie
 
@@ -16,10 +14,14 @@ test-spec =
     (tie.spec
     (λ c κs. search needs)
     (λ c κs. search needs)
+    (λ c. search needs)
+    (λ c. search needs)
     (λ c κs. search needs)
-    (λ c κs. search needs)
-    (λ c κs. search needs)
-    (λ c. let a = c .before .before .before .before .before .before .before .before .before .before .before .before .before .before .before .before .args in let ls = lists (grid (now (a .cells)) (now (a .neighbours)) (now (a .fringe))) (now (a .customs)) (now (a .corners)) (now (a .numbers)) (now (a .marks)) in ap Done (all-counted (a .job) ls _ (sym (c .before .before .before .before .before .before .before .before .is-shape .ensures) ∙ c .before .before .before .before .before .before .before .if1 .taken) (c .before .tally-all .ensures)) ∙ links-decide (a .job) ls (sym (c .before .before .before .before .before .before .before .before .is-shape .ensures) ∙ c .before .before .before .before .before .before .before .if1 .taken) (sym (c .before .before .before .before .before .before .is-in-range .ensures) ∙ c .before .before .before .before .before .if2 .taken) true (sym (rw (c .before .before .before .before .cells-in .ensures) at (c .before .before .before .all-neighbours .ensures)) ∙ c .before .before .if3 .taken))
-    (λ c. let a = c .before .before .before .before .before .before .before .before .before .before .before .before .before .before .args in let ls = lists (grid (now (a .cells)) (now (a .neighbours)) (now (a .fringe))) (now (a .customs)) (now (a .corners)) (now (a .numbers)) (now (a .marks)) in links-decide (a .job) ls (sym (c .before .before .before .before .before .before .is-shape .ensures) ∙ c .before .before .before .before .before .if1 .taken) (sym (c .before .before .before .before .is-in-range .ensures) ∙ c .before .before .before .if2 .taken) false (sym (rw (c .before .before .cells-in .ensures) at (c .before .all-neighbours .ensures)) ∙ c .if3 .left))
-    (λ c. let a = c .before .before .before .before .before .before .before .before .before .before .before .args in let ls = lists (grid (now (a .cells)) (now (a .neighbours)) (now (a .fringe))) (now (a .customs)) (now (a .corners)) (now (a .numbers)) (now (a .marks)) in out-of-range (a .job) ls (sym (c .before .before .before .is-shape .ensures) ∙ c .before .before .if1 .taken) (sym (c .before .is-in-range .ensures) ∙ c .if2 .left))
-    (λ c. let a = c .before .before .before .before .before .before .before .before .before .args in let ls = lists (grid (now (a .cells)) (now (a .neighbours)) (now (a .fringe))) (now (a .customs)) (now (a .corners)) (now (a .numbers)) (now (a .marks)) in misshapen (a .job) ls (sym (c .before .is-shape .ensures) ∙ c .if1 .left)))
+    (λ c.
+    let a = c .before .before .before .before .before .before .before .before .before .before .before .before .args in
+    let ls = lists (grid (now (a .cells)) (now (a .neighbours)) (now (a .fringe))) (now (a .customs)) (now (a .corners)) (now (a .numbers)) (now (a .marks)) in
+    sym (refused-so (a .job) ls _ _ (sym (c .before .before .before .check .ensures) ∙ c .before .answer .given .1) _))
+    (λ c.
+    let a = c .before .before .before .before .before .before .before .before .before .before .before .before .before .args in
+    let ls = lists (grid (now (a .cells)) (now (a .neighbours)) (now (a .fringe))) (now (a .customs)) (now (a .corners)) (now (a .numbers)) (now (a .marks)) in
+    sums-decide (a .job) ls _ _ _ (sym (c .before .before .before .before .check .ensures) ∙ c .before .before .enum-told .given .1) (c .before .tally-all .ensures)))
