@@ -65,13 +65,3 @@ pub fn keep_top(
     }
     top_by(number, corners, numbers, marks)
 }
-
-// Of two that are kept, the one of the number if the first is, and else the other.
-pub fn top_among(first: KeptTop, other: KeptTop, number: u8) -> crate::Top
-    ensures { λ r. ⌜ r ≡ cond (eqb number (first .number)) (first .top) (other .top) ⌝ }
-{
-    if number == first.number {
-        return first.top;
-    }
-    other.top
-}

@@ -4,7 +4,7 @@ use mathlib.Core.Bool.{Bool, true, false, cond}
 use mathlib.Core.List.{List, [], _∷_, _++_, map, map-append}
 use mathlib.Core.Logic.{_⊎_, inl, inr}
 use Prim.Native.Nat.{ℕ, zero, suc}
-use borrow.Author.Tests.{eq-eqb, ne-eqb, eqb-true}
+use borrow.Author.Tests.{eqb-true}
 use lib.Dec.{eqb}
 use lib.Ieee.{Float}
 use Rattle.face.specs.declared.triangle.Counts.{Counts}
@@ -48,15 +48,14 @@ module _ (cs ns : List Float) (ms : List ℕ) where
   pub tops-kept : (own kept next : KeptTop) (o n : ℕ) (top : Top)
       → own ≡ topBy cs ns ms o
       → kept ≡ topBy cs ns ms (kept .number)
-      → top ≡ cond (eqb n (own .number)) (own .top) (next .top)
-      → ((n ≡ own .number → ⊥) × (next ≡ cond (eqb n (kept .number)) kept (topBy cs ns ms n))) ⊎ ((n ≡ own .number) × (next ≡ kept))
+      → ((n ≡ own .number → ⊥) × ((next ≡ cond (eqb n (kept .number)) kept (topBy cs ns ms n)) × (top ≡ next .top))) ⊎ ((n ≡ own .number) × ((next ≡ kept) × (top ≡ own .top)))
       → (next ≡ topBy cs ns ms (next .number)) × (top ≡ topOf cs (optionAt ns ms n))
-  tops-kept own kept next o n top w k t (inl (d, e)) =
+  tops-kept own kept next o n top w k (inl (d, (e, t))) =
       let m = e ∙ kept-or kept n (eqb n (kept .number)) k refl in
-      (of-its-own next n m, t ∙ ap (λ (b : Bool). cond b (own .top) (next .top)) (ne-eqb n (own .number) d) ∙ ap (λ (y : KeptTop). y .top) m)
-  tops-kept own kept next o n top w k t (inr (d, e)) =
+      (of-its-own next n m, t ∙ ap (λ (y : KeptTop). y .top) m)
+  tops-kept own kept next o n top w k (inr (d, (e, t))) =
       let m = w ∙ ap (topBy cs ns ms) (sym (d ∙ ap (λ (y : KeptTop). y .number) w)) in
-      (rw e k, t ∙ ap (λ (b : Bool). cond b (own .top) (next .top)) (eq-eqb n (own .number) d) ∙ ap (λ (y : KeptTop). y .top) m)
+      (rw e k, t ∙ ap (λ (y : KeptTop). y .top) m)
 
 module _ (job : HeightMap) (g : Grid) (us : List ℕ) (ps xs : List Float) (ms : List ℕ) (k : ℕ) where
   -- a wall has no use for the cap corners

@@ -28,7 +28,7 @@ use Rattle.heightmap_faces.specs.Kept.{numberIn, levelBy}
 use Rattle.heightmap_faces.proofs.Keeping.{number-is}
 use Rattle.heightmap_faces.proofs.Plain.{side-is}
 use Rattle.heightmap_laying.specs.declared.Shared.{Shared}
-use Rattle.heightmap_laying.specs.Shared.{sharedOf, levelFaces, sidesFaces}
+use Rattle.heightmap_laying.specs.Shared.{sharedOf, levelMesh, levelFaces, sidesFaces}
 
 -- what a face's name chooses, and the option of its number
 abbrev pub chosenFor : HeightMap → Lists → Name → Choice
@@ -59,15 +59,11 @@ module _ (job : HeightMap) (ls : Lists) where
   )
 
   module _ (k : ℕ) where
-    faces-are : (d : ℕ) (b : Bool) (f : Mesh) → f ≡ meshOf job ls (Side k d) → cond b (f ∷ []) [] ≡ map (meshOf job ls) (cond b (Side k d ∷ []) [])
-    faces-are d true f e = ap (λ (x : Mesh). x ∷ []) e
-    faces-are d false f e = refl
-
     pub side-more : (d : ℕ) (at place next : Counts) (B C D : Buffers) (w : Wall) (t : Stand) (v : Level) (l r : Vec2)
         → SoFar (sidesFaces job ls k d) at B place C
         → w ≡ wall job (ls .grid) k d
         → t ≡ sideStand job
-        → v ≡ levelOf (skinOf (optionOf job ls (Side k d)) (spanOf job (ls .grid))) (heightAt (ls .grid .cells) k)
+        → (present w ≡ true → v ≡ levelOf (skinOf (optionOf job ls (Side k d)) (spanOf job (ls .grid))) (heightAt (ls .grid .cells) k))
         → l ≡ leftAt (ls .grid .cells) k d
         → r ≡ rightAt (ls .grid .cells) k d
         → next ≡ also place (measure (levelFaces w t v l r))
@@ -76,7 +72,10 @@ module _ (job : HeightMap) (ls : Lists) where
     side-more d at place next B C D w t v l r h ew et ev el er n x =
         let f = meshOf job ls in
         let more : List Mesh = map f (sideNames job (ls .grid) k d) in
-        let e : levelFaces w t v l r ≡ more =
-        rw (ew, et, ev, el, er) (faces-are d (present (wall job (ls .grid) k d)) _ (sym (side-is job ls k d))) in
+        let e : levelFaces w t v l r ≡ more = same (present w) refl ∙ ap (λ (x : Wall). map f (cond (present x) (Side k d ∷ []) [])) ew in
         rw (map-append f (chain (sideNames job (ls .grid) k) d) (sideNames job (ls .grid) k d))
         (so-far-more (sidesFaces job ls k d) more at B place next C D h (n ∙ ap (λ (y : List Mesh). also place (measure y)) e) (x ∙ ap (λ (y : List Mesh). layEach y place C) e))
+      where
+        same : (b : Bool) → present w ≡ b → cond b (levelMesh t v l r (footOf w) ∷ []) [] ≡ map (meshOf job ls) (cond b (Side k d ∷ []) [])
+        same true p = ap (λ (x : Mesh). x ∷ []) (rw (et, ev p, el, er, ew) (sym (side-is job ls k d)))
+        same false p = refl

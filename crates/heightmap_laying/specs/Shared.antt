@@ -18,9 +18,10 @@ use Rattle.buffers.specs.Laying.{Buffers, laidIfFits, layEach}
 use Rattle.buffers.specs.Faces.{standing, hexagonMesh, wallMesh}
 use Rattle.heightmap.specs.declared.Wall.{Wall}
 use Rattle.heightmap.specs.declared.Name.{Name}
+use Rattle.heightmap.specs.declared.Name.the-variants.{Side}
 use Rattle.heightmap.specs.declared.HeightMap.{HeightMap}
 use Rattle.heightmap.specs.Grid.{grid, cellsIn, spanOf, present, footOf}
-use Rattle.heightmap.specs.HeightMap.{Lists, lists, sideNames, sideStand, capStand, meshOf, mapFaces}
+use Rattle.heightmap.specs.HeightMap.{Lists, lists, sideNames, customAt, customPlace, ownChoice, chosen, sideStand, capStand, meshOf, mapFaces}
 use Rattle.heightmap_faces.specs.declared.Level.{Level}
 use Rattle.heightmap_faces.specs.declared.Top.{Top}
 use Rattle.heightmap_faces.specs.Speed.{skinOf, levelQuad}
@@ -57,6 +58,10 @@ levelMesh t v l r foot = wallMesh t (v .skin .inset) (levelQuad v l r foot)
 
 abbrev pub levelFaces : Wall → Stand → Level → Vec2 → Vec2 → List Mesh
 levelFaces w t v l r = cond (present w) (levelMesh t v l r (footOf w) ∷ []) []
+
+-- the number of the option of a wall, or any where it is not present
+abbrev pub wallNumber : HeightMap → Wall → ℕ → ℕ → ℕ → List ℕ → ℕ
+wallNumber job w any k d us = cond (present w) (numberIn (chosen (ownChoice job (Side k d)) (customAt (job .customs) us (customPlace (Side k d))))) any
 
 -- the first walls of a cell
 abbrev pub sidesFaces : HeightMap → Lists → ℕ → ℕ → List Mesh

@@ -10,7 +10,7 @@ ghost use Rattle.buffers.specs.Lent.{become};
 ghost use Rattle.heightmap.specs.Grid.{grid, leftAt, rightAt};
 ghost use Rattle.heightmap.specs.HeightMap.{lists, lent, lentForCounts};
 ghost use Rattle.heightmap_laying.specs.Shared.{sharedOf, lendingForSides, topMesh, topFaces, levelMesh, levelFaces, sidesFaces, cellFaces};
-ghost use Rattle.heightmap_laying.specs.Shared.{sidesLaid, cellLaid, nameLaid, allLaid};
+ghost use Rattle.heightmap_laying.specs.Shared.{wallNumber, sidesLaid, cellLaid, nameLaid, allLaid};
 use face::triangle::Counts;
 use face::triangle::IndexPlace;
 use face::triangle::VertexNumber;
@@ -180,6 +180,17 @@ fn put_wall(
     at
 }
 
+// The number of the option of a wall that is present; where there is none, any number will do.
+fn wall_number(job: HeightMap, w: Wall, any: u8, k: usize, d: u8, customs: &[u8]) -> u8
+    ensures { λ r. ⌜ r ≡ wallNumber job w any k d (now (customs .entry)) ⌝ }
+{
+    if heightmap::grid::is_present(w) {
+        let choice = heightmap::options::choice_of(job, Name::Side(k, d), customs);
+        return heightmap_faces::kept::number_of(choice);
+    }
+    any
+}
+
 // The walls of a cell in order, and the place past them.
 fn put_sides(
     s: Shared,
@@ -216,13 +227,12 @@ fn put_sides(
     };
     let mut place = at;
     for d in 0u8..6 {
-        let choice = heightmap::options::choice_of(job, Name::Side(k, d), customs);
-        let number = heightmap_faces::kept::number_of(choice);
+        let w = heightmap::grid::wall_at(sides, how, cells, neighbours, fringe, k, d);
+        let number = wall_number(job, w, kept.number, k, d, customs);
         if number != kept.number {
             kept = heightmap_faces::kept::level_by(number, span, top, numbers, marks);
         }
         let v = kept.level;
-        let w = heightmap::grid::wall_at(sides, how, cells, neighbours, fringe, k, d);
         place = put_wall(w, v, t, k, d, place, cells, vertices, normals, uvs, indices);
     }
     place
@@ -305,10 +315,11 @@ pub fn put_all(
     for k in 0usize..n {
         let choice = heightmap::options::choice_of(job, Name::Cap(k), customs);
         let number = heightmap_faces::kept::number_of(choice);
+        let mut top = own.top;
         if number != own.number {
             kept = heightmap_faces::kept::keep_top(kept, number, corners, numbers, marks);
+            top = kept.top;
         }
-        let top = heightmap_faces::kept::top_among(own, kept, number);
         place = put_cell(
             s,
             top,

@@ -562,9 +562,6 @@ heightmap-faces-level-of κs a x y v w p q = (determined p q, refl)
 pub heightmap-faces-kept-keep-top : Fixes heightmap_faces.kept.keep_top.ended heightmap_faces.kept.keep_top.Reads.Learnt
 heightmap-faces-kept-keep-top κs a x y v w p q = (determined p q, refl)
 
-pub heightmap-faces-kept-top-among : Fixes heightmap_faces.kept.top_among.ended heightmap_faces.kept.top_among.Reads.Learnt
-heightmap-faces-kept-top-among κs a x y v w p q = (determined p q, refl)
-
 -- ---- heightmap_laying
 pub heightmap-laying-put-all : Fixes heightmap_laying.put_all.ended heightmap_laying.put_all.Reads.Learnt
 heightmap-laying-put-all κs a x y v w p q = let e = determined p q in (refl, λ i. (tt, (tt, (tt, (tt, (tt, (tt, (tt, (tt, (e i .vertices, (e i .normals, (e i .uvs, (e i .indices, tt)))))))))))))

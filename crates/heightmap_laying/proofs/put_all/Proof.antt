@@ -55,7 +55,6 @@ put-all-spec =
     (λ c κs. search needs)
     (λ c κs. search needs)
     (λ c κs. search needs)
-    (λ c κs. search needs)
     (λ c κs.
     let a = c .before .before .before .before .before .before .before .before .before .before .before .before .before .before .before .before .before .before .before .before .before .before .before .before .before .before .before .args in
     let i = c .before .before .before .before .before .before .before .before .before .before .loop .inv in
@@ -67,8 +66,8 @@ put-all-spec =
     let L = c .before .before .before .before .before .before .before .before .before .before .before .before .before .before .before .before .before .before .before .loop in
     let ls = lists (grid (now (a .cells)) (now (a .neighbours)) (now (a .fringe))) (now (a .customs)) (now (a .corners)) (now (a .numbers)) (now (a .marks)) in
     let e = c .before .before .before .before .before .before .before .before .put-cell .ensures in
-    let came = ⊎-elim (λ w. inl (w .0 .taken, w .2 ∙ w .1 .ensures)) (λ w. inr (w .0 .left, w .1)) (c .before .before .before .before .before .before .before .before .before .before .before .before .before .before .if1 .came) in
-    let g = tops-kept (now (a .corners)) (now (a .numbers)) (now (a .marks)) _ (L .kept) (c .before .before .before .before .before .before .before .before .before .before .before .before .before .before .if1 .kept) _ _ _ (c .before .before .before .before .before .before .before .before .before .before .before .before .before .before .before .before .before .before .before .before .before .before .top-by .ensures) (L .inv .1 .1 .1) (c .before .before .before .before .before .before .before .before .before .before .before .before .before .top-among .ensures) came in
+    let came = ⊎-elim (λ w. inl (w .0 .taken, (w .3 ∙ w .1 .ensures, w .4 ∙ ap (λ (y : KeptTop). y .top) (sym (w .3))))) (λ w. inr (w .0 .left, (w .1, w .2))) (c .before .before .before .before .before .before .before .before .before .before .before .before .before .if1 .came) in
+    let g = tops-kept (now (a .corners)) (now (a .numbers)) (now (a .marks)) _ (L .kept) (c .before .before .before .before .before .before .before .before .before .before .before .before .before .if1 .kept) _ _ _ (c .before .before .before .before .before .before .before .before .before .before .before .before .before .before .before .before .before .before .before .before .before .before .top-by .ensures) (L .inv .1 .1 .1) came in
     let t = g .1 ∙ ap (topOf (now (a .corners))) (option-chosen (a .job) ls (Cap (L .k)) _ _ (c .before .before .before .before .before .before .before .before .before .before .before .before .before .before .before .before .before .choice-of .ensures) (c .before .before .before .before .before .before .before .before .before .before .before .before .before .before .before .before .number-of2 .ensures)) in (
       omega (arith, c .before .before .before .before .before .before .before .before .before .before .before .before .before .before .before .before .before .before .loop-test .taken),
       (

@@ -2,6 +2,7 @@
 use borrow.Author.Needs.{needs}
 use Prim.Native.Nat.{ℕ, _+_, _*_, _-_, _≤_}
 use mathlib.Core.Path.{_≡_, refl, sym, ap, _∙_}
+use mathlib.Core.Bool.{Bool, true, cond}
 use mathlib.Core.List.{[]}
 use native.Mathlib.Numerals.{add-one}
 use native.Mathlib.Omega.{arith}
@@ -11,13 +12,14 @@ use Rattle.buffers.specs.Mesh.{also, measure}
 use Rattle.buffers.specs.Laying.{Buffers, four, layEach}
 use Rattle.buffers.proofs.Each.{SoFar, so-far-none, each-lengths}
 use Rattle.heightmap.specs.declared.Name.the-variants.{Side}
-use Rattle.heightmap.specs.Grid.{grid}
+use Rattle.heightmap.specs.Grid.{grid, present}
 use Rattle.heightmap.specs.HeightMap.{lists}
 use mathlib.Core.Logic.{⊎-elim}
-use Rattle.heightmap_faces.specs.Kept.{levelBy}
+use Rattle.heightmap_faces.specs.declared.kept.KeptLevel.{KeptLevel}
+use Rattle.heightmap_faces.specs.Kept.{numberIn, levelBy}
 use Rattle.heightmap_laying.specs.declared.Shared.{Shared}
 use Rattle.heightmap_laying.specs.Shared.{sidesFaces}
-use Rattle.heightmap_laying.proofs.Walls.{own-kept, level-chosen, side-more}
+use Rattle.heightmap_laying.proofs.Walls.{chosenFor, own-kept, level-chosen, side-more}
 use Rattle.heightmap_laying.proofs.put_sides.Statement.{statement}
 use Rattle.heightmap_laying.proofs.put_sides.Tie as tie
 
@@ -46,24 +48,25 @@ put-sides-spec =
     (λ c κs. search needs)
     (λ c κs. search needs)
     (λ c κs. search needs)
-    (λ c κs. search needs)
     (λ c κs.
-    let i = c .before .before .before .before .before .before .before .before .before .before .before .loop .inv in
-    (omega (arith, i .0, i .1 .1 .0 .0, c .before .before .before .before .before .before .before .before .before .before .before .before .before .before .before .before .before .before .before .before .before .before .before .before .before .before .before .before .pre .1 .0), omega (arith, i .0, i .1 .1 .0 .1, c .before .before .before .before .before .before .before .before .before .before .before .before .before .before .before .before .before .before .before .before .before .before .before .before .before .before .before .before .pre .1 .1)))
-    (λ c. omega (arith, c .before .before .before .before .before .before .before .before .before .before .before .before .before .before .before .before .before .before .before .loop-test .taken))
-    (λ c. omega (arith, c .before .before .before .before .before .before .before .before .before .before .before .before .before .before .before .before .before .before .before .loop-test .taken))
+    let i = c .before .before .before .before .before .before .before .before .before .before .loop .inv in
+    (omega (arith, i .0, i .1 .1 .0 .0, c .before .before .before .before .before .before .before .before .before .before .before .before .before .before .before .before .before .before .before .before .before .before .before .before .before .before .before .pre .1 .0), omega (arith, i .0, i .1 .1 .0 .1, c .before .before .before .before .before .before .before .before .before .before .before .before .before .before .before .before .before .before .before .before .before .before .before .before .before .before .before .pre .1 .1)))
+    (λ c. omega (arith, c .before .before .before .before .before .before .before .before .before .before .before .before .before .before .before .before .before .before .loop-test .taken))
+    (λ c. omega (arith, c .before .before .before .before .before .before .before .before .before .before .before .before .before .before .before .before .before .before .loop-test .taken))
     (λ c.
-    let a = c .before .before .before .before .before .before .before .before .before .before .before .before .before .before .before .before .before .before .before .before .before .before .before .before .before .before .before .before .before .before .before .before .before .before .before .before .before .args in
-    let L = c .before .before .before .before .before .before .before .before .before .before .before .before .before .before .before .before .before .before .before .before .loop in
+    let a = c .before .before .before .before .before .before .before .before .before .before .before .before .before .before .before .before .before .before .before .before .before .before .before .before .before .before .before .before .before .before .before .before .before .before .before .before .args in
+    let L = c .before .before .before .before .before .before .before .before .before .before .before .before .before .before .before .before .before .before .before .loop in
     let ls = lists (grid (now (a .cells)) (now (a .neighbours)) (now (a .fringe))) (now (a .customs)) [] (now (a .numbers)) (now (a .marks)) in
-    let p = c .before .before .before .before .before .before .before .before .before .before .before .before .before .before .before .before .before .before .before .before .before .before .before .before .before .before .before .before .before .before .before .before .before .before .before .before .before .pre .0 in
-    let made = ⊎-elim (λ w. w .2 ∙ w .1 .ensures) (λ w. w .1 ∙ L .inv .1 .1 .1 ∙ ap (levelBy (a .s .span) (c .before .before .before .before .before .before .before .before .before .before .before .before .before .before .before .before .before .before .before .before .before .before .height-at .result) (now (a .numbers)) (now (a .marks))) (sym (w .0 .left))) (c .before .before .before .before .before .before .before .before .before .before .before .before .before .before .before .if1 .came) in
-    let g = level-chosen (a .s .job) ls (Side (a .k) (L .d)) (a .k) (c .before .before .before .before .before .before .before .before .before .before .before .before .before .before .before .if1 .kept) (a .s .span) _ _ _ (ap (λ (x : Shared). x .span) p) (c .before .before .before .before .before .before .before .before .before .before .before .before .before .before .before .before .before .before .before .before .before .before .height-at .ensures) (c .before .before .before .before .before .before .before .before .before .before .before .before .before .before .before .before .before .before .choice-of .ensures) (c .before .before .before .before .before .before .before .before .before .before .before .before .before .before .before .before .before .number-of .ensures) made in
+    let p = c .before .before .before .before .before .before .before .before .before .before .before .before .before .before .before .before .before .before .before .before .before .before .before .before .before .before .before .before .before .before .before .before .before .before .before .before .pre .0 in
+    let made = ⊎-elim (λ w. w .2 ∙ w .1 .ensures) (λ w. w .1 ∙ L .inv .1 .1 .1 ∙ ap (levelBy (a .s .span) (c .before .before .before .before .before .before .before .before .before .before .before .before .before .before .before .before .before .before .before .before .before .height-at .result) (now (a .numbers)) (now (a .marks))) (sym (w .0 .left))) (c .before .before .before .before .before .before .before .before .before .before .before .before .before .before .if1 .came) in
+    let own = made ∙ ap (levelBy (a .s .span) (c .before .before .before .before .before .before .before .before .before .before .before .before .before .before .before .before .before .before .before .before .before .height-at .result) (now (a .numbers)) (now (a .marks))) (sym (ap (λ (y : KeptLevel). y .number) made)) in
+    let name = Side (a .k) (L .d) in
+    let choice = chosenFor (a .s .job) ls name in
     let m = c .before .before .before .before .before .before .before .before .put-wall .ensures .1 .0 in (
-      omega (arith, c .before .before .before .before .before .before .before .before .before .before .before .before .before .before .before .before .before .before .before .loop-test .taken),
+      omega (arith, c .before .before .before .before .before .before .before .before .before .before .before .before .before .before .before .before .before .before .loop-test .taken),
       (
-        rw (add-one (L .d)) (side-more (a .s .job) ls (a .k) (L .d) (a .at) (L .place) _ (four (now (a .vertices)) (now (a .normals)) (now (a .uvs)) (now (a .indices))) (four (L .vertices) (L .normals) (L .uvs) (L .indices)) _ _ _ _ _ _ (L .inv .1 .0) (c .before .before .before .before .before .before .before .before .before .before .before .before .before .wall-at .ensures) (ap (λ (x : Shared). x .stand) p) (g .1) refl refl (c .before .before .before .before .before .before .before .before .put-wall .ensures .0) (c .before .before .before .before .before .before .before .before .put-wall .ensures .1 .1)),
-        ((omega (arith, m .0, L .inv .1 .1 .0 .0), omega (arith, m .1, L .inv .1 .1 .0 .1)), g .0),
+        rw (add-one (L .d)) (side-more (a .s .job) ls (a .k) (L .d) (a .at) (L .place) _ (four (now (a .vertices)) (now (a .normals)) (now (a .uvs)) (now (a .indices))) (four (L .vertices) (L .normals) (L .uvs) (L .indices)) _ _ _ _ _ _ (L .inv .1 .0) (c .before .before .before .before .before .before .before .before .before .before .before .before .before .before .before .before .before .wall-at .ensures) (ap (λ (x : Shared). x .stand) p) (λ q. level-chosen (a .s .job) ls name (a .k) (c .before .before .before .before .before .before .before .before .before .before .before .before .before .before .if1 .kept) (a .s .span) _ _ choice (ap (λ (x : Shared). x .span) p) (c .before .before .before .before .before .before .before .before .before .before .before .before .before .before .before .before .before .before .before .before .before .height-at .ensures) refl (c .before .before .before .before .before .before .before .before .before .before .before .before .before .before .before .before .wall-number .ensures ∙ ap (λ (x : Bool). cond x (numberIn choice) (L .kept .number)) q) made .1) refl refl (c .before .before .before .before .before .before .before .before .put-wall .ensures .0) (c .before .before .before .before .before .before .before .before .put-wall .ensures .1 .1)),
+        ((omega (arith, m .0, L .inv .1 .1 .0 .0), omega (arith, m .1, L .inv .1 .1 .0 .1)), own),
       ),
     ))
     (λ c.
