@@ -4,20 +4,18 @@ use mathlib.Core.Bool.{Bool, true, false, _&&_}
 use Prim.Native.Nat.{ℕ}
 use lib.ListN.{length}
 use Rattle.face.specs.declared.triangle.Counts.{Counts}
-use Rattle.answer.specs.declared.answer.Refusal.{Refusal}
 use Rattle.answer.specs.declared.answer.Refusal.the-variants.{Shape, Range, Neighbour}
 use Rattle.answer.specs.declared.answer.Answer.{Answer}
-use Rattle.answer.specs.declared.answer.Answer.the-variants.{Done, Refused}
-use Rattle.answer.specs.Answers.{given, limited}
+use Rattle.answer.specs.declared.answer.Answer.the-variants.{Refused}
+use Rattle.answer.specs.Answers.{given}
 use Rattle.answer.specs.Checks.{exactly, cellCount}
-use Rattle.answer.proofs.Laws.{not-done, same-counts, given-done}
 use Rattle.placement.specs.Options.{entryCount, isTable}
 use Rattle.buffers.specs.Mesh.{measure}
 use Rattle.heightmap.specs.declared.HeightMap.{HeightMap}
 use Rattle.heightmap.specs.Grid.{cellsIn}
 use Rattle.heightmap.specs.HeightMap.{Lists, mapFaces}
 use Rattle.heightmap.specs.Counts.{mapCounts}
-use Rattle.heightmap.specs.Tests.{fringeShape, gridShape, allNamed, shapeOf, rangeOf, linkedOf, checked, tested, planned}
+use Rattle.heightmap.specs.Tests.{fringeShape, gridShape, allNamed, shapeOf, rangeOf, linkedOf, checked}
 use Rattle.heightmap.proofs.Counts.{map-counts}
 use Rattle.heightmap_plan.specs.declared.tally.Tally.{Tally}
 use Rattle.heightmap_plan.specs.Walking.{tallyOf}
@@ -50,38 +48,10 @@ module _ (job : HeightMap) (ls : Lists) where
       ap (λ (x : Bool). given x Neighbour rest) (sym g)
       ∙ sym (ap₂ (λ (s r : Bool). three s r (linkedOf (ls .grid)) rest) e f)
 
-  -- what is refused so is refused whatever comes after, and what is not is what comes after
-  pub refused-so : (a : Counts) (e : Refusal) → checked job ls (Done a) ≡ Refused e → (rest : Answer) → checked job ls rest ≡ Refused e
-  refused-so a e h rest = go (shapeOf job ls) (rangeOf job ls) (linkedOf (ls .grid)) h
+  -- the sums come first: where they are not all counted, the shape is refused
+  pub counted-first : (rest : Counts → Answer) (t : Tally) → t ≡ tallyOf job ls → checked job ls (rest (t .counts)) ≡ checked job ls (rest (measure (mapFaces job ls)))
+  counted-first rest t p = go (shapeOf job ls) refl
     where
-      go : (s r l : Bool) → three s r l (Done a) ≡ Refused e → three s r l rest ≡ Refused e
-      go true true true q = not-done (sym q)
-      go true true false q = q
-      go true false l q = q
-      go false r l q = q
-
-  pub passed-so : (a d : Counts) → checked job ls (Done a) ≡ Done d → (rest : Answer) → checked job ls rest ≡ rest
-  passed-so a d h rest = go (shapeOf job ls) (rangeOf job ls) (linkedOf (ls .grid)) h
-    where
-      go : (s r l : Bool) → three s r l (Done a) ≡ Done d → three s r l rest ≡ rest
-      go true true true q = refl
-      go true true false q = not-done q
-      go true false l q = not-done q
-      go false r l q = not-done q
-
-  -- the sums, once the tests are passed
-  pub sums-decide : (a d : Counts) (t : Tally) → checked job ls (Done a) ≡ Done d → t ≡ tallyOf job ls → Done (t .counts) ≡ tested job ls
-  sums-decide a d t h p =
-      ap Done (all-counted t (given-done (shapeOf job ls) Shape _ h .0) p ∙ sym (map-counts job ls)) ∙ sym (passed-so a d h (Done (measure (mapFaces job ls))))
-
-  -- the limit comes after
-  pub limit-decides : (c : Counts) → tested job ls ≡ Done c → limited c ≡ planned job ls
-  limit-decides c h = sym (passed-so _ c h (limited (measure (mapFaces job ls))) ∙ ap limited (same-counts (sym (passed-so _ c h (Done (measure (mapFaces job ls)))) ∙ h)))
-
-  -- the sums may come first: where they are not all counted, the shape is refused
-  pub counted-first : (t : Tally) → t ≡ tallyOf job ls → checked job ls (limited (t .counts)) ≡ planned job ls
-  counted-first t p = go (shapeOf job ls) refl
-    where
-      go : (b : Bool) → shapeOf job ls ≡ b → checked job ls (limited (t .counts)) ≡ planned job ls
-      go true e = ap (λ (c : Counts). checked job ls (limited c)) (all-counted t e p ∙ sym (map-counts job ls))
-      go false e = sym (misshapen (limited (t .counts)) e) ∙ misshapen (limited (measure (mapFaces job ls))) e
+      go : (b : Bool) → shapeOf job ls ≡ b → checked job ls (rest (t .counts)) ≡ checked job ls (rest (measure (mapFaces job ls)))
+      go true e = ap (λ (c : Counts). checked job ls (rest c)) (all-counted t e p ∙ sym (map-counts job ls))
+      go false e = sym (misshapen (rest (t .counts)) e) ∙ misshapen (rest (measure (mapFaces job ls))) e

@@ -32,7 +32,7 @@ use Rattle.heightmap.proofs.Numbering.{start-alike}
 use Rattle.heightmap_plan.specs.declared.names.Found.{Found}
 use Rattle.heightmap_plan.specs.declared.tally.Tally.{Tally}
 use Rattle.heightmap_plan.specs.Walking.{tallyOf}
-use Rattle.heightmap_plan.specs.Finding.{foundBy, foundAt, faceCount, numbered}
+use Rattle.heightmap_plan.specs.Finding.{foundBy, foundAt, numbered}
 use Rattle.heightmap_plan.proofs.Deciding.{few-cells}
 
 module _ (job : HeightMap) (g : Grid) (us : List ℕ) (ps xs : List Float) (ms : List ℕ) where
@@ -57,22 +57,25 @@ module _ (job : HeightMap) (g : Grid) (us : List ℕ) (ps xs : List Float) (ms :
   face-total : length (mapNames job g) ≡ length (mapFaces job whole)
   face-total = sym (length-map (mapNames job g) (meshOf job whole))
 
-  pub faces-counted : (a : Answer) → a ≡ planned job whole → facesBy a (faceCount job g) ≡ facesTold job whole
-  faces-counted a e =
-      faces-same a (faceCount job g) (length (mapFaces job whole))
-      (λ c d. ap (λ (b : Bool). cond b (length (mapNames job g)) 0) (planned-few c (sym e ∙ d)) ∙ face-total)
-      ∙ ap (λ (x : Answer). facesBy x (length (mapFaces job whole))) e
+  -- ---- the faces that the walk counts, where the plan is done
+  module _ (t : Tally) (e : t ≡ tallyOf job bare) where
+    faces-so : cellCount (cellsIn (g .cells)) ≡ true → t .faces ≡ length (mapFaces job whole)
+    faces-so h = ap (λ (x : Tally). x .faces) e ∙ counted ∙ face-total
+      where
+        counted : tallyOf job bare .faces ≡ length (mapNames job g)
+        counted = rw h refl
 
-  -- ---- a number among the faces that the walk counts
-  pub named-so : (k : ℕ) (t : Tally) → t ≡ tallyOf job bare → named (planned job whole) k (t .faces) ≡ numbered job whole k
-  named-so k t e = go (planned job whole) planned-few
-    where
-      counted : cellCount (cellsIn (g .cells)) ≡ true → tallyOf job bare .faces ≡ length (mapNames job g)
-      counted h = rw h refl
+    pub faces-counted : (a : Answer) → a ≡ planned job whole → facesBy a (t .faces) ≡ facesTold job whole
+    faces-counted a p =
+        faces-same a (t .faces) (length (mapFaces job whole)) (λ c d. faces-so (planned-few c (sym p ∙ d)))
+        ∙ ap (λ (x : Answer). facesBy x (length (mapFaces job whole))) p
 
-      go : (a : Answer) → ((c : Counts) → a ≡ Done c → cellCount (cellsIn (g .cells)) ≡ true) → named a k (t .faces) ≡ named a k (length (mapFaces job whole))
-      go (Refused w) h = refl
-      go (Done c) h = ap (named (Done c) k) (ap (λ (x : Tally). x .faces) e ∙ counted (h c refl) ∙ face-total)
+    pub named-so : (k : ℕ) → named (planned job whole) k (t .faces) ≡ numbered job whole k
+    named-so k = go (planned job whole) planned-few
+      where
+        go : (a : Answer) → ((c : Counts) → a ≡ Done c → cellCount (cellsIn (g .cells)) ≡ true) → named a k (t .faces) ≡ named a k (length (mapFaces job whole))
+        go (Refused w) h = refl
+        go (Done c) h = ap (named (Done c) k) (faces-so (h c refl))
 
   -- ---- the face of a number, where the plan is done
   module _ (k : ℕ) (found : Found) (e : found ≡ foundAt job bare k) where

@@ -206,7 +206,8 @@ pub fn check(
     Answer::Refused(Refusal::Shape)
 }
 
-// The counts of the job, however great, or why it is refused before they are asked for.
+// The counts of the job, however great, or why it is refused before they are asked for. The walk over the cells comes
+// first, here as in every call: it takes any lists, and of those that are refused its sums are not used.
 pub fn test(
     job: HeightMap,
     cells: &[f32],
@@ -219,9 +220,11 @@ pub fn test(
 ) -> Answer
     ensures { λ r. ⌜ r ≡ tested job (lent cells neighbours fringe customs corners numbers marks) ⌝ }
 {
-    let answer = check(
+    let all = crate::tally::tally_all(job, cells, neighbours, fringe, customs, numbers, marks);
+    let counts = all.counts;
+    check(
         job,
-        Answer::Done(crate::tally::zero()),
+        Answer::Done(counts),
         cells,
         neighbours,
         fringe,
@@ -229,23 +232,7 @@ pub fn test(
         corners,
         numbers,
         marks,
-    );
-    match answer {
-        Answer::Refused(why) => Answer::Refused(why),
-        Answer::Done(_) => {
-            let all = crate::tally::tally_all(
-                job,
-                cells,
-                neighbours,
-                fringe,
-                customs,
-                numbers,
-                marks,
-            );
-            let counts = all.counts;
-            Answer::Done(counts)
-        }
-    }
+    )
 }
 
 // The counts of the job, or why it is refused.
@@ -261,8 +248,11 @@ pub fn plan(
 ) -> Answer
     ensures { λ r. ⌜ r ≡ planned job (lent cells neighbours fringe customs corners numbers marks) ⌝ }
 {
-    let answer = test(
+    let all = crate::tally::tally_all(job, cells, neighbours, fringe, customs, numbers, marks);
+    let counts = all.counts;
+    check(
         job,
+        answer::answer::limit(counts),
         cells,
         neighbours,
         fringe,
@@ -270,9 +260,5 @@ pub fn plan(
         corners,
         numbers,
         marks,
-    );
-    match answer {
-        Answer::Refused(why) => Answer::Refused(why),
-        Answer::Done(counts) => answer::answer::limit(counts),
-    }
+    )
 }

@@ -1,5 +1,5 @@
-// How many faces a map has and what they take, in one walk over its cells. The same walk finds the cell of a face by its
-// number; a call for one face makes it after the plan's.
+// How many faces a map has and what they take, in one walk over its cells, which also finds the cell of a face by its
+// number.
 ghost use mathlib.Core.Path.{_≡_};
 ghost use mathlib.Core.Bool.{cond};
 ghost use mathlib.Core.List.{[]};
@@ -39,7 +39,7 @@ pub struct Walls {
     pub before: usize,
 }
 
-pub(crate) fn zero() -> Counts
+fn zero() -> Counts
     ensures { λ r. ⌜ r ≡ none ⌝ }
 {
     Counts {

@@ -25,8 +25,11 @@ pub fn faces(
 ) -> Faces
     ensures { λ r. ⌜ r ≡ facesTold job (lent cells neighbours fringe customs corners numbers marks) ⌝ }
 {
-    let planned = crate::plan(
+    let all = crate::tally::tally_all(job, cells, neighbours, fringe, customs, numbers, marks);
+    let counts = all.counts;
+    let planned = crate::check(
         job,
+        answer::answer::limit(counts),
         cells,
         neighbours,
         fringe,
@@ -35,8 +38,7 @@ pub fn faces(
         numbers,
         marks,
     );
-    let faces = crate::names::face_count(job, cells, neighbours, fringe);
-    mesh::windows::faces_if_done(planned, faces)
+    mesh::windows::faces_if_done(planned, all.faces)
 }
 
 fn size_of(job: HeightMap, name: Name, customs: &[u8], numbers: &[f32], marks: &[u8]) -> Counts
@@ -56,8 +58,7 @@ pub struct Sought {
     pub found: Found,
 }
 
-// The plan, the number and its face in one walk: it comes first, and what it counts on lists that are then refused is
-// not told.
+// The plan, the number and its face, in one walk. Of lists that are refused the face means nothing.
 pub fn seek(
     job: HeightMap,
     number: usize,

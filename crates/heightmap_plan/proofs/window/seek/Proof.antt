@@ -3,7 +3,7 @@ use borrow.Author.Needs.{needs}
 use mathlib.Core.Path.{ap, ap₂, _∙_}
 use denote.Ref.{now}
 use Rattle.answer.specs.declared.answer.Answer.{Answer}
-use Rattle.answer.specs.Answers.{named}
+use Rattle.answer.specs.Answers.{limited, named}
 use Rattle.heightmap.specs.Grid.{grid}
 use Rattle.heightmap.specs.HeightMap.{lists}
 use Rattle.heightmap.specs.Tests.{checked}
@@ -27,5 +27,5 @@ seek-spec =
     let ls = lists (grid (now (a .cells)) (now (a .neighbours)) (now (a .fringe))) (now (a .customs)) (now (a .corners)) (now (a .numbers)) (now (a .marks)) in
     let s = c .before .before .before .before .before .before .survey-faces .ensures in
     let t = c .before .before .before .before .before .before .survey-faces .result .all in
-    let p = c .before .check .ensures ∙ ap (checked (a .job) ls) (c .before .before .limit .ensures) ∙ counted-first (a .job) ls t (ap (λ (x : Survey). x .all) s) in
-    ap₂ (λ (x : Answer) (y : Found). record { answer = x; found = y }) (c .name .ensures ∙ ap (λ (x : Answer). named x (a .number) (t .faces)) p ∙ named-so (a .job) (grid (now (a .cells)) (now (a .neighbours)) (now (a .fringe))) (now (a .customs)) (now (a .corners)) (now (a .numbers)) (now (a .marks)) (a .number) t (ap (λ (x : Survey). x .all) s)) (ap (λ (x : Survey). x .found) s)))
+    let p = c .before .check .ensures ∙ ap (checked (a .job) ls) (c .before .before .limit .ensures) ∙ counted-first (a .job) ls limited t (ap (λ (x : Survey). x .all) s) in
+    ap₂ (λ (x : Answer) (y : Found). record { answer = x; found = y }) (c .name .ensures ∙ ap (λ (x : Answer). named x (a .number) (t .faces)) p ∙ named-so (a .job) (grid (now (a .cells)) (now (a .neighbours)) (now (a .fringe))) (now (a .customs)) (now (a .corners)) (now (a .numbers)) (now (a .marks)) t (ap (λ (x : Survey). x .all) s) (a .number)) (ap (λ (x : Survey). x .found) s)))
