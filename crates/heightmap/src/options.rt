@@ -1,10 +1,7 @@
 // The option of each face, and where the sides stand.
 ghost use mathlib.Core.Path.{_≡_};
 ghost use Prim.Native.Nat.{_+_, _*_, _≤_};
-ghost use Rattle.face.specs.Vec.{flat};
 ghost use Rattle.heightmap.specs.HeightMap.{lentForOptions, customAt, customPlace, ownChoice, chosen, optionOf, originOf, sideStand};
-use face::vec::Vec2;
-use face::vec::Vec3;
 use placement::options::Choice;
 use placement::options::FaceOptions;
 use placement::placement::Choice3;
@@ -64,23 +61,13 @@ pub fn option_of(
     placement::options::option_for(choice_of(job, name, customs), numbers, marks)
 }
 
-fn ground(p: Vec2) -> Vec3
-    ensures { λ r. ⌜ r ≡ flat p ⌝ }
-{
-    Vec3 {
-        x: p.x,
-        y: 0.0,
-        z: p.y,
-    }
-}
-
 // The origin, at height +0, unless the map is centred.
 pub fn origin_of(origin: crate::Origin) -> Choice3
     ensures { λ r. ⌜ r ≡ originOf origin ⌝ }
 {
     match origin {
         crate::Origin::Centred => Choice3::Absent,
-        crate::Origin::At(p) => Choice3::With(ground(p)),
+        crate::Origin::At(p) => Choice3::With(face::face::raise(p, 0.0)),
     }
 }
 

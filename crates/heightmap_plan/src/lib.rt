@@ -5,7 +5,9 @@ pub mod tally;
 pub mod window;
 
 ghost use mathlib.Core.Path.{_≡_};
+ghost use mathlib.Core.Bool.{_&&_};
 ghost use mathlib.Core.List.{[]};
+ghost use Rattle.answer.specs.Checks.{allInRange};
 ghost use Rattle.heightmap.specs.Grid.{grid, lentGrid};
 ghost use Rattle.heightmap.specs.HeightMap.{lists, lent};
 ghost use Rattle.heightmap.specs.Tests.{fringeShape, gridShape, customsShape, allNamed, shapeOf, fringeInRange, heightsInRange, originInRange, placeOf, rangeOf, checked, tested, planned};
@@ -138,6 +140,18 @@ fn is_fringe_in_range(how: Fringe, fringe: &[f32]) -> bool
     }
 }
 
+// What belongs to no cell.
+fn is_job_in_range(job: HeightMap, corners: &[f32], numbers: &[f32]) -> bool
+    ensures { λ r. ⌜ r ≡ allInRange (now (corners .entry)) && (allInRange (now (numbers .entry)) && placeOf job) ⌝ }
+{
+    if answer::check::all_in_range(corners) {
+        if answer::check::all_in_range(numbers) {
+            return is_in_place(job);
+        }
+    }
+    false
+}
+
 fn is_in_range(
     job: HeightMap,
     cells: &[f32],
@@ -150,11 +164,7 @@ fn is_in_range(
     let how = job.fringe;
     if answer::check::all_in_range(cells) {
         if is_fringe_in_range(how, fringe) {
-            if answer::check::all_in_range(corners) {
-                if answer::check::all_in_range(numbers) {
-                    return is_in_place(job);
-                }
-            }
+            return is_job_in_range(job, corners, numbers);
         }
     }
     false

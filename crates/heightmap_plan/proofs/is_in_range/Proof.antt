@@ -1,4 +1,4 @@
--- `is_in_range`: the cells, then the fringe, then the corners, then the table, then the place. Assumes nothing.
+-- `is_in_range`: the cells, then the fringe, then the job. Assumes nothing.
 use borrow.Author.Needs.{needs}
 use mathlib.Core.Path.{sym, _∙_}
 use Rattle.heightmap_plan.proofs.is_in_range.Statement.{statement}
@@ -11,10 +11,6 @@ is-in-range-spec =
     (λ c κs. search needs)
     (λ c κs. search needs)
     (λ c κs. search needs)
-    (λ c κs. search needs)
-    (λ c κs. search needs)
-    (λ c. rw (sym (c .before .before .before .before .before .before .before .before .all-in-range .ensures) ∙ c .before .before .before .before .before .before .before .if1 .taken, sym (c .before .before .before .before .before .before .is-fringe-in-range .ensures) ∙ c .before .before .before .before .before .if2 .taken, sym (c .before .before .before .before .all-in-range2 .ensures) ∙ c .before .before .before .if3 .taken, sym (c .before .before .all-in-range3 .ensures) ∙ c .before .if4 .taken) (c .is-in-place .ensures))
-    (λ c. rw (sym (c .before .before .before .before .before .before .before .all-in-range .ensures) ∙ c .before .before .before .before .before .before .if1 .taken, sym (c .before .before .before .before .before .is-fringe-in-range .ensures) ∙ c .before .before .before .before .if2 .taken, sym (c .before .before .before .all-in-range2 .ensures) ∙ c .before .before .if3 .taken, sym (c .before .all-in-range3 .ensures) ∙ c .if4 .left))
-    (λ c. rw (sym (c .before .before .before .before .before .all-in-range .ensures) ∙ c .before .before .before .before .if1 .taken, sym (c .before .before .before .is-fringe-in-range .ensures) ∙ c .before .before .if2 .taken, sym (c .before .all-in-range2 .ensures) ∙ c .if3 .left))
+    (λ c. rw (sym (c .before .before .before .before .all-in-range .ensures) ∙ c .before .before .before .if1 .taken, sym (c .before .before .is-fringe-in-range .ensures) ∙ c .before .if2 .taken) (c .is-job-in-range .ensures))
     (λ c. rw (sym (c .before .before .before .all-in-range .ensures) ∙ c .before .before .if1 .taken, sym (c .before .is-fringe-in-range .ensures) ∙ c .if2 .left))
     (λ c. rw (sym (c .before .all-in-range .ensures) ∙ c .if1 .left)))

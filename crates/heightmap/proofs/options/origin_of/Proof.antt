@@ -11,4 +11,4 @@ origin-of-spec =
     (λ c. search needs)
     (λ c κs. search needs)
     (λ c. search needs)
-    (λ c. rw (c .before .before .origin .given .1, c .ground .ensures)))
+    (λ c. rw (c .before .before .origin .given .1, c .raise .ensures)))
