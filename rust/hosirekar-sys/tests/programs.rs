@@ -1,5 +1,5 @@
 //! Programs over the header, compiled, linked with the archive and run. Cargo runs a test in its package's
-//! folder, where they are read.
+//! folder, where they are read. The README shows lines of one.
 
 #[path = "common/compiler.rs"]
 mod compiler;
@@ -42,6 +42,16 @@ centroid: 0, 6 and 6
 it: 3 8 40
 ";
 
+const README: &str = include_str!("../../../README.md");
+const EXAMPLE: &str = include_str!("../examples/map.c");
+
+/// The indented lines of a text, from the first that starts so.
+fn block(text: &str, first: &str) -> String {
+    let lines = text.lines().skip_while(|line| !line.starts_with(first));
+    let block = lines.take_while(|line| line.starts_with("    "));
+    block.flat_map(|line| [line, "\n"]).collect()
+}
+
 fn hold_printed(language: &Language, path: &str, wanted: &str) {
     let program = std::fs::read_to_string(path).unwrap_or_else(|why| panic!("{path}: {why}"));
     if let Some(printed) = language.run(path, &program) {
@@ -62,4 +72,14 @@ fn c_hands_every_struct_over_as_the_archive_takes_it() {
 #[test]
 fn cpp_hands_every_struct_over_as_the_archive_takes_it() {
     hold_printed(&CPP, "tests/calls.c", CALLS);
+}
+
+#[test]
+fn the_readme_shows_the_example_and_what_it_prints() {
+    let shown = block(README, "    HosirekarChoice ");
+    assert!(shown.contains(" = hosirekar_heightmap_build("), "{shown}");
+    assert_eq!(shown, block(EXAMPLE, "    HosirekarChoice "));
+    assert!(shown.lines().count() <= 10);
+    let (first, _) = MAP.split_once('\n').expect("a line");
+    assert!(README.contains(&format!("prints `{first}`")), "{first}");
 }
