@@ -41,10 +41,11 @@ stoodQuad t q = plainOf (stood t) (q .positions ++ q .positions) (stoodNormal t 
 abbrev pub stoodHexagon : Stand → InsetHexagon → Plain
 stoodHexagon t h = plainOf (stood t) (h .positions) (stoodNormal t (h .normal)) (h .uvs)
 
--- F3, F5: of m points, and that they are so many: four points with two triangles, or six with four
+-- F3, F5: the triangles of m points
 abbrev pub plainTriangles : ℕ → List Triangle
 plainTriangles m = cond (eqb m 4) quadTriangles hexagonTriangles
 
+-- m points and n triangles: four and two, or six and four
 abbrev pub Plainly : ℕ → ℕ → Type 0
 Plainly m n = (m ≡ n + 2) × (length (plainTriangles m) ≡ n)
 

@@ -2,9 +2,6 @@
 // go, where a face with its inset goes through memory.
 ghost use mathlib.Core.Path.{_≡_};
 ghost use mathlib.Core.List.{_++_};
-ghost use lib.ListN.{getD};
-ghost use Rattle.face.specs.Lists.{each};
-ghost use Rattle.face.specs.Vec.{off2, off3};
 ghost use Rattle.placement.specs.Placing.{stood};
 ghost use Rattle.placement.specs.Speed.{shiftOf};
 ghost use Rattle.buffers.specs.Plain.{pointsBy, uvsOf, shiftedQuad, stoodQuad, stoodHexagon};
@@ -116,7 +113,7 @@ fn outer_uvs(ts: [Vec2; 12]) -> [Vec2; 6]
     [ts[0], ts[1], ts[2], ts[3], ts[4], ts[5]]
 }
 
-// The outer points of a hexagon, whose inner ones are its own where it has no inset.
+// The outer points of a hexagon: where it has no inset, no others are laid.
 pub fn stand_hexagon(t: Stand, h: InsetHexagon) -> Plain
     ensures { λ r. ⌜ r ≡ stoodHexagon t h ⌝ }
 {

@@ -25,8 +25,10 @@ built job ls = builtOf (checked job ls) (mapFaces job ls)
 abbrev pub faced : HeightMap → Lists → ℕ → Buffers → Buffers
 faced job ls = facedOf (checked job ls) (mapFaces job ls)
 
+-- R16: how many faces there are
 abbrev pub facesTold : HeightMap → Lists → Faces
 facesTold job ls = facesOf (checked job ls) (mapFaces job ls)
 
+-- R12, R16: the places of the k-th
 abbrev pub windowTold : HeightMap → Lists → ℕ → Window
 windowTold job ls = windowOf (checked job ls) (mapFaces job ls)

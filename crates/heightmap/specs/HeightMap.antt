@@ -28,7 +28,6 @@ use Rattle.heightmap.specs.declared.Customs.{Customs}
 use Rattle.heightmap.specs.declared.Customs.the-variants as customs
 use Rattle.heightmap.specs.declared.Origin.{Origin}
 use Rattle.heightmap.specs.declared.Origin.the-variants as origin
-use Rattle.heightmap.specs.declared.Wall.{Wall}
 use Rattle.heightmap.specs.declared.Name.{Name}
 use Rattle.heightmap.specs.declared.Name.the-variants.{Cap, Side}
 use Rattle.heightmap.specs.declared.HeightMap.{HeightMap}

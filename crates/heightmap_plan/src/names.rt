@@ -1,6 +1,5 @@
 // Which face of a map a number is, where it starts, and which number a face has.
 ghost use mathlib.Core.Path.{_≡_};
-ghost use mathlib.Core.List.{[]};
 ghost use Prim.Native.Nat.{_≤_, _<_};
 ghost use lib.ListN.{length};
 ghost use Rattle.face.specs.Lists.{chain};

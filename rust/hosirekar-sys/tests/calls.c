@@ -14,6 +14,12 @@ static void print_floats(const char *what, const float *floats, int count) {
     printf("\n");
 }
 
+static void print_window(HosirekarWindow window) {
+    print_answer("window", window.answer);
+    printf("it: %lu and %lu from %lu and %lu\n", (unsigned long)window.vertices, (unsigned long)window.indices,
+           (unsigned long)window.first_vertex, (unsigned long)window.first_index);
+}
+
 static void call_numbers(void) {
     HosirekarUvOptions options = {{2, 3}, {0.25f, 0.5f}, {1, 2}, {3, 10}, {true, false}};
     HosirekarVec2 uv = {0.25f, 0.5f}, point = {0, -4};
@@ -39,6 +45,11 @@ static void call_jobs(void) {
         8, {true, 3}, {given, absent, given, absent, given, absent}, given, absent, {1, 2}, moved};
     HosirekarHeightMap map = {given, absent, false, 1, {true, 0, 1}, {true, {1, 2}}, moved};
     print_answer("column", hosirekar_column_plan(column, pairs, 24, corners, 12, NULL, 0, NULL, 0));
+    HosirekarFaces faces = hosirekar_column_faces(column, pairs, 24, corners, 12, NULL, 0, NULL, 0);
+    print_answer("faces", faces.answer);
+    printf("they: %lu\n", (unsigned long)faces.faces);
+    print_window(hosirekar_column_window(column, pairs, 24, corners, 12, NULL, 0, NULL, 0, 9));
+    print_window(hosirekar_column_window(column, pairs, 24, corners, 12, NULL, 0, NULL, 0, 10));
     print_answer("cheap column", hosirekar_cheap_column_build(cheap, corners, 12, vertices, 36, normals, 36,
                                                               uvs, 24, indices, 48));
     print_floats("its top", vertices, 3);

@@ -22,6 +22,12 @@ fused: 22
 altered: 4.5 18
 wrapped: 0.5 0
 column: 0, 42 and 66
+faces: 0, 42 and 66
+they: 10
+window: 0, 42 and 66
+it: 6 and 12 from 36 and 54
+window: 6, 0 and 0
+it: 0 and 0 from 0 and 0
 cheap column: 0, 12 and 48
 its top: 2 3 0
 its normal: 1.5 0 0.25

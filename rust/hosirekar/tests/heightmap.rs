@@ -124,6 +124,19 @@ fn a_map_has_at_most_sixty_four_options() {
 }
 
 #[test]
+fn options_that_come_again_are_entered_once() {
+    let by_turns = |k: u8| CellOptions {
+        cap: Some(shifted(k % 3)),
+        ..CellOptions::default()
+    };
+    let map = HeightMap {
+        custom_options: Some((0..200).map(by_turns).collect()),
+        ..optional(200)
+    };
+    assert_eq!(planned(&map), 200 * 6);
+}
+
+#[test]
 fn lists_have_an_entry_for_each_cell() {
     for more in [0, 1, 3, 70_000] {
         let fringe = HeightMap {

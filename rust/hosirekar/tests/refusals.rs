@@ -410,6 +410,10 @@ fn a_plan_past_the_limit_is_not_built() {
     for (vertices, indices) in [(65_537, 0), (0, 262_145), (usize::MAX, usize::MAX)] {
         let boast = Boast(Counts { vertices, indices });
         assert_eq!(boast.build(), Err(Refusal::Limit));
+        let mut mesh = filled(3, 3);
+        let before = mesh.clone();
+        assert_eq!(mesh.add(&boast), Err(Refusal::Limit));
+        assert_eq!(mesh, before);
     }
 }
 
