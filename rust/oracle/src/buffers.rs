@@ -72,6 +72,14 @@ impl Buffers {
         }
     }
 
+    /// The lengths of the four.
+    #[must_use]
+    pub fn lengths(&self) -> [usize; 4] {
+        let floats = [&self.vertices, &self.normals, &self.uvs].map(Vec::len);
+        let [vertices, normals, uvs] = floats;
+        [vertices, normals, uvs, self.indices.len()]
+    }
+
     /// The same lists, whole.
     pub fn lent(&mut self) -> Lent<'_> {
         Lent {

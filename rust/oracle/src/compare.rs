@@ -5,8 +5,8 @@ use crate::MeshInfo;
 use crate::buffers::{Buffers, Counts};
 use crate::ours::{Call, Job};
 use crate::random::Random;
-use crate::safe::{self, Safe};
-use hosirekar::Job as _;
+use crate::safe::Safe;
+use crate::safe_calls;
 use hosirekar_sys::CAnswer;
 
 /// How many were tried and how many differ, and what the first one shows.
@@ -222,26 +222,13 @@ pub fn order(count: usize, random: &mut Random) -> Vec<usize> {
     order
 }
 
-/// The safe crate's own build has exactly the mesh's numbers.
-pub fn safe(job: &impl Safe, mesh: &MeshInfo) -> Result<(), String> {
-    let counts = Counts::of(mesh);
-    let mut wanted = Buffers::marked(counts.lengths());
-    wanted.lay(mesh, Counts::default(), counts);
-    let built = job.safe().build().map_err(|no| no.to_string())?;
-    let built = safe::lists(built);
-    let lengths = [
-        built.vertices.len(),
-        built.normals.len(),
-        built.uvs.len(),
-        built.indices.len(),
-    ];
-    hold("safe lengths", lengths, counts.lengths())?;
-    hold_buffers("safe build", &built, &wanted)
-}
-
 /// All that is asked of one job.
 pub fn job(job: &(impl Job + Safe), random: &mut Random) -> Result<(), String> {
     let trial = Trial::new(job, random);
-    let all = safe(job, &trial.mesh).and_then(|()| trial.all(random));
+    let safe = job.safe();
+    let backwards: Vec<usize> = (0..trial.faces()).rev().collect();
+    let all = safe_calls::whole(&safe, &trial.mesh)
+        .and_then(|()| safe_calls::parts(&safe, &trial, &backwards))
+        .and_then(|()| trial.all(random));
     all.map_err(|what| format!("{what}\n{job:?}"))
 }

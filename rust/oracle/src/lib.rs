@@ -51,6 +51,8 @@ pub mod record;
 pub mod replay_record;
 #[cfg(feature = "archive")]
 pub mod safe;
+#[cfg(feature = "archive")]
+pub mod safe_calls;
 pub mod shapes;
 pub mod steps;
 pub mod storage;

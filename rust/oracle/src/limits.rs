@@ -6,10 +6,12 @@ use crate::buffers::{Buffers, Counts};
 use crate::builder_cases::ends_of;
 use crate::builders::{Choice, Column, Standing};
 use crate::cases::inset;
-use crate::compare::{self, Tally, Trial, done, hold, hold_buffers, refused};
+use crate::compare::{Tally, Trial, done, hold, hold_buffers, refused};
 use crate::mesh_cases::Merge;
 use crate::ours::Job;
 use crate::random::Random;
+use crate::safe::Safe;
+use crate::safe_calls;
 use crate::shapes::regular_hexagons;
 use crate::stored;
 use crate::{FaceOptions, InsetScaleMode, MeshInfo, UVOptions};
@@ -152,7 +154,7 @@ fn taken(job: &Column, by_faces: bool, random: &mut Random) -> Result<(), String
     let all = trial
         .plan()
         .and_then(|()| trial.whole())
-        .and_then(|()| compare::safe(job, &trial.mesh))
+        .and_then(|()| safe_calls::whole(&job.safe(), &trial.mesh))
         .and_then(|()| trial.short(random))
         .and_then(|()| alone(&trial, random))
         .and_then(|()| match by_faces {

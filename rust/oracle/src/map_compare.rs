@@ -1,5 +1,6 @@
 //! Drawn height maps, small and great, held to hexx's: the plan, the build,
-//! short buffers, and single faces in any order with refused calls between.
+//! short buffers, and single faces in any order with refused calls between;
+//! and the safe crate's calls on the same maps.
 
 use crate::MeshInfo;
 use crate::compare::{Tally, Trial, order};
@@ -12,6 +13,8 @@ use crate::maps::{Map, Turn};
 use crate::numbers::number;
 use crate::ours::Job;
 use crate::random::Random;
+use crate::safe::Safe;
+use crate::safe_calls;
 use glam::vec3;
 
 /// The most cells of a small map.
@@ -19,6 +22,9 @@ const SMALL: u32 = 40;
 
 /// How many faces of a great map are called where not all are.
 const SOME: usize = 32;
+
+/// Of so many drawn maps the safe crate is asked for the faces of one.
+const SHARE: u64 = 4;
 
 /// What drawn maps came to.
 #[derive(Debug)]
@@ -35,6 +41,9 @@ pub struct Maps {
     pub other_zero: usize,
     /// Refused for their vertices; hexx is not asked.
     pub too_many: usize,
+    /// Maps whose faces the safe crate is asked for, and so many windows.
+    pub told: usize,
+    pub windows: usize,
     /// How far maps turned by a quaternion are from hexx's, and great ones.
     pub distances: [Greatest; 2],
 }
@@ -49,8 +58,16 @@ impl Maps {
             telling: 0,
             other_zero: 0,
             too_many: 0,
+            told: 0,
+            windows: 0,
             distances: [Greatest::NONE, Greatest::NONE],
         }
+    }
+
+    /// Counts the faces in that the safe crate is asked for.
+    fn ask(&mut self, faces: &[usize]) {
+        self.told += 1;
+        self.windows += faces.len();
     }
 
     /// Counts a map in.
@@ -96,6 +113,8 @@ impl std::fmt::Display for Maps {
             let many = self.too_many;
             write!(f, "; refused for their vertices {many}")?;
         }
+        let [told, windows] = [self.told, self.windows];
+        write!(f, "; the safe crate tells {windows} windows of {told} maps")?;
         if self.both_zeros > 0 {
             let [both, telling, other] = [self.both_zeros, self.telling, self.other_zero];
             write!(
@@ -120,15 +139,42 @@ impl std::fmt::Display for Maps {
 pub fn given(maps: &[Map], random: &mut Random) -> Maps {
     let mut all = Maps::new();
     for map in maps {
-        one(&mut all, map, random);
+        one(&mut all, map, 1, random);
     }
     all
 }
 
-fn one(all: &mut Maps, map: &Map, random: &mut Random) {
+/// A map; the safe crate is asked for the faces of one of `each`.
+fn one(all: &mut Maps, map: &Map, each: u64, random: &mut Random) {
     let trial = Trial::new(map, random);
-    let found = trial.all(random);
+    let mut found = trial.all(random).and_then(|()| safe_build(map, &trial));
+    if all.tally.tried.is_multiple_of(each) {
+        let backwards: Vec<usize> = (0..trial.faces()).rev().collect();
+        all.ask(&backwards);
+        found = found.and_then(|()| safe_faces(map, &trial, &backwards));
+    }
     all.add(map, &trial, found);
+}
+
+fn safe_build(map: &Map, trial: &Trial) -> Result<(), String> {
+    safe_calls::whole(&map.safe(), &trial.mesh)
+}
+
+/// What the safe crate tells and builds of these faces, the cells copied once.
+fn safe_faces(map: &Map, trial: &Trial, faces: &[usize]) -> Result<(), String> {
+    let safe = map.safe();
+    safe_calls::parts(&safe.ready(), trial, faces)
+}
+
+/// Refused with this number, by the safe crate too. That a cell has neighbours
+/// too few is nothing that it can be told.
+pub fn refused_map(map: &Map, number: u32) -> Result<(), String> {
+    refused_everywhere(map, number)?;
+    if map.neighbours.len() != 6 * map.count() {
+        return Ok(());
+    }
+    let safe = map.safe();
+    safe_calls::refused(&safe.ready(), number)
 }
 
 /// Drawn maps of at most 40 cells.
@@ -144,7 +190,7 @@ pub fn small(count: u64, turned: bool, random: &mut Random) -> Maps {
         if turned && random.once_in(4) {
             map.turn = Some(any_nine(random));
         }
-        one(&mut all, &map, random);
+        one(&mut all, &map, SHARE, random);
     }
     all
 }
@@ -155,7 +201,7 @@ pub fn of_zeros(count: u64, random: &mut Random) -> Maps {
     let mut all = Maps::new();
     for _ in 0..count {
         let cells = random.below(25) as usize;
-        one(&mut all, &drawn_zeros(random, cells), random);
+        one(&mut all, &drawn_zeros(random, cells), SHARE, random);
     }
     all
 }
@@ -175,21 +221,32 @@ pub fn great(count: u64, long: bool, random: &mut Random) -> Maps {
         let vertices: usize = map.face_counts().iter().map(|face| face.vertices).sum();
         if vertices > VERTICES {
             all.too_many += 1;
-            all.tally.add(refused_everywhere(&map, 4));
+            all.tally.add(refused_map(&map, 4));
             continue;
         }
         let trial = Trial::new(&map, random);
-        let found = parts(&trial, long, random);
+        all.ask(&spread(&trial));
+        let found = parts(&map, &trial, long, random);
         all.add(&map, &trial, found);
     }
     all
 }
 
-/// All but the order of all faces: single ones alone, and some in any order;
-/// where it is `long`, once in 16 times all of them.
-pub fn parts(trial: &Trial, long: bool, random: &mut Random) -> Result<(), String> {
+/// The last face, the first and some between.
+fn spread(trial: &Trial) -> Vec<usize> {
+    let faces = trial.faces();
+    let step = faces.div_ceil(SOME);
+    let is_one = |face: &usize| face.is_multiple_of(step) || face + 1 == faces;
+    (0..faces).rev().filter(is_one).collect()
+}
+
+/// All but the order of all faces, with the safe crate's calls: single faces
+/// alone, and some in any order; where it is `long`, once in 16 times all.
+pub fn parts(map: &Map, trial: &Trial, long: bool, random: &mut Random) -> Result<(), String> {
     trial.plan()?;
     trial.whole()?;
+    safe_build(map, trial)?;
+    safe_faces(map, trial, &spread(trial))?;
     trial.short(random)?;
     alone(trial, random)?;
     if trial.faces() == 0 {

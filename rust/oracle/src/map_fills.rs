@@ -4,8 +4,8 @@
 use crate::builders::Choice;
 use crate::cases::{inset, options};
 use crate::compare::{Tally, Trial};
-use crate::limits::{VERTICES, refused_everywhere};
-use crate::map_compare::parts;
+use crate::limits::VERTICES;
+use crate::map_compare::{parts, refused_map};
 use crate::map_limits::{Limit, bare, limits};
 use crate::maps::{Map, NOBODY, NUMBERS, OWN};
 use crate::ours::Job;
@@ -68,7 +68,7 @@ pub fn all(step: usize, random: &mut Random) -> Fills {
 
 fn named(fills: &mut Fills, limit: &Limit, random: &mut Random) {
     if limit.number > 0 {
-        let found = refused_everywhere(&limit.map, limit.number);
+        let found = refused_map(&limit.map, limit.number);
         return fills.refused.add(found);
     }
     taken(fills, &limit.map, random);
@@ -78,7 +78,7 @@ fn taken(fills: &mut Fills, map: &Map, random: &mut Random) {
     let trial = Trial::new(map, random);
     let vertices = trial.mesh.vertices.len();
     fills.exact += usize::from(vertices == VERTICES);
-    let found = parts(&trial, fills.long, random);
+    let found = parts(map, &trial, fills.long, random);
     let name = || (map.count(), map.caps, map.sides, map.customs.is_some());
     fills
         .taken
@@ -93,14 +93,14 @@ fn way(fills: &mut Fills, number: usize, random: &mut Random) {
     taken(fills, &first(&map, cells), random);
     if cells == CELLS {
         let more = first(&map, cells + 1);
-        return fills.refused.add(refused_everywhere(&more, 1));
+        return fills.refused.add(refused_map(&more, 1));
     }
     if let Some(full) = filled(first(&map, cells + 1)) {
         taken(fills, &full, random);
     }
     for more in [cells + 1, cells + 2, 2 * cells] {
         let more = first(&map, more.min(CELLS));
-        fills.refused.add(refused_everywhere(&more, 4));
+        fills.refused.add(refused_map(&more, 4));
     }
 }
 

@@ -3,12 +3,14 @@
 
 use crate::hills::{Asked, Builder, Way, again, hills, ways};
 use crate::rows::{Headed, Rows, Sides, copy, least};
+use hosirekar::{HeightMap, Job as _};
 use hosirekar_sys::{CAnswer, CHeightMap};
 use oracle::buffers::{Buffers, Counts, Lent};
 use oracle::map_calls;
 use oracle::maps::Map;
 use oracle::ours::{Call, Job};
 use oracle::random::Random;
+use oracle::safe::{Safe, lists};
 use std::hint::black_box;
 
 /// What goes over of a map, made before the clock starts.
@@ -50,8 +52,8 @@ impl Given {
     }
 }
 
-/// What is timed is the same mesh: bit by bit, or in its counts where there is
-/// a turn.
+/// What is timed is the same mesh: the safe crate's bit by bit, and hexx's, or
+/// its counts where there is a turn.
 fn assert_same(map: &Map) {
     let mesh = map.hexx();
     let counts = Counts::of(&mesh);
@@ -60,6 +62,17 @@ fn assert_same(map: &Map) {
     let mut ours = Buffers::marked(counts.lengths());
     let mut wanted = ours.clone();
     given.build(ours.lent());
+    let safe = lists(map.safe().build().expect("a map that is taken"));
+    assert_eq!(
+        safe.lengths(),
+        counts.lengths(),
+        "the safe crate has other counts"
+    );
+    assert_eq!(
+        safe.difference(&ours),
+        None,
+        "the safe crate has another mesh"
+    );
     wanted.lay(&mesh, Counts::default(), counts);
     if map.turn.is_none() {
         assert_eq!(ours.difference(&wanted), None, "hexx has another mesh");
@@ -99,6 +112,7 @@ fn set(rows: &Rows, way: &Way, maps: &[Map]) {
     let both = maps.iter().zip(&asked);
     let builders: Vec<Builder> = both.map(|(map, asked)| asked.builder(map)).collect();
     let given: Vec<Given> = maps.iter().map(Given::of).collect();
+    let safe: Vec<HeightMap> = maps.iter().map(Safe::safe).collect();
     let counts: Vec<Counts> = given.iter().map(Given::counts).collect();
     let mut lent = room(&counts);
     let lists = |counts: &Counts| Buffers::marked(counts.lengths());
@@ -118,7 +132,12 @@ fn set(rows: &Rows, way: &Way, maps: &[Map]) {
                 black_box(&mut lent);
             }
         },
-        new: None,
+        new: Some(&mut || {
+            for map in &safe {
+                let built = black_box(map).build();
+                assert!(black_box(&built).is_ok());
+            }
+        }),
         copy: &mut || {
             let both = from.iter().zip(&mut to);
             both.for_each(|(from, to)| copy(black_box(from), to));

@@ -53,7 +53,8 @@ pub struct Sides<'s> {
     pub hexx: &'s mut dyn FnMut(),
     /// Into lent lists that are not cleared.
     pub lent: &'s mut dyn FnMut(),
-    /// The safe crate's own build: a plan, and new cleared lists.
+    /// The safe crate's own build: a plan, and new cleared lists; of a map, its
+    /// cells copied first.
     pub new: Option<&'s mut dyn FnMut()>,
     pub copy: &'s mut dyn FnMut(),
 }
