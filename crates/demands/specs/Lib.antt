@@ -1,3 +1,4 @@
 pub mod Job
 pub mod Calls
+pub mod Records
 pub mod Bench

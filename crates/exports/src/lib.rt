@@ -3,6 +3,7 @@
 // definitions of `boundary`.
 pub mod cheap;
 pub mod columns;
+pub mod loading;
 pub mod maps;
 pub mod merging;
 pub mod numbers;

@@ -206,6 +206,15 @@ typedef struct HosirekarHeightMap {
     HosirekarPlacement placement;
 } HosirekarHeightMap;
 
+/* A cell of a height map as a record, for hosirekar_heightmap_load. */
+typedef struct HosirekarCell {
+    float height;
+    float x; /* the middle of its cap */
+    float z;
+    float ends[24];         /* of each side the left end and the right, x and z of each */
+    uint32_t neighbours[6]; /* the number of the cell beyond each side, or HOSIREKAR_NO_CELL */
+} HosirekarCell;
+
 /* ---- Arithmetic and single uvs. */
 
 /* The float nearest to the square root of x. */
@@ -370,6 +379,14 @@ HosirekarWindow hosirekar_cheap_column_window(
  * - fringe, 6, if it is listed: the height beyond each side that has no neighbour; else it is not read;
  * - customs, 7, if listed: the option of the cap and of each side, or HOSIREKAR_DEFAULT; else they
  *   are not read. */
+
+/* The cells of records in the lists cells and neighbours, or nothing: 1 if there are more than 65,536 or a
+ * list is too short. What the calls below then take is the first 27 and 6 numbers a cell of each. Both
+ * counts are 0. */
+HosirekarAnswer hosirekar_heightmap_load(
+    const HosirekarCell *records, size_t records_len,
+    float *cells, size_t cells_len,
+    uint32_t *neighbours, size_t neighbours_len);
 
 /* The counts of a height map, or why it is refused. */
 HosirekarAnswer hosirekar_heightmap_plan(

@@ -287,6 +287,26 @@ pub fn hosirekar_column_face(
     }
 }
 
+/// The cells of records in the two lists that the calls of a height map take, or nothing. What
+/// those calls then take is the first 27 and 6 numbers a cell of each list. Both counts are 0.
+#[inline]
+pub fn hosirekar_heightmap_load(
+    records: &[Cell],
+    cells: &mut [f32],
+    neighbours: &mut [u32],
+) -> CAnswer {
+    unsafe {
+        raw::hosirekar_heightmap_load(
+            records.as_ptr(),
+            records.len(),
+            cells.as_mut_ptr(),
+            cells.len(),
+            neighbours.as_mut_ptr(),
+            neighbours.len(),
+        )
+    }
+}
+
 /// The counts of a height map, or why it is refused.
 #[inline]
 pub fn hosirekar_heightmap_plan(

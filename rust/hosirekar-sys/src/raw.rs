@@ -160,6 +160,15 @@ unsafe extern "C" {
         indices_len: usize,
     ) -> CAnswer;
 
+    pub fn hosirekar_heightmap_load(
+        records: *const Cell,
+        records_len: usize,
+        cells: *mut f32,
+        cells_len: usize,
+        neighbours: *mut u32,
+        neighbours_len: usize,
+    ) -> CAnswer;
+
     pub fn hosirekar_heightmap_plan(
         job: CHeightMap,
         cells: *const f32,

@@ -203,6 +203,22 @@ pub struct CHeightMap {
     pub placement: CPlacement,
 }
 
+/// A cell of a height map as a record.
+#[repr(C)]
+#[derive(Clone, Copy, Debug, Default, PartialEq)]
+pub struct Cell {
+    /// Of its cap.
+    pub height: f32,
+    /// The middle of its cap.
+    pub x: f32,
+    /// The same.
+    pub z: f32,
+    /// Of each side the left end and the right, x and z of each.
+    pub ends: [f32; 24],
+    /// The number of the cell beyond each side, or 4,294,967,295.
+    pub neighbours: [u32; 6],
+}
+
 /// A cheap column.
 #[repr(C)]
 #[derive(Clone, Copy, Debug, Default, PartialEq)]

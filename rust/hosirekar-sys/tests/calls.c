@@ -90,9 +90,26 @@ static void call_stored(void) {
     printf("it: %g %g %g\n", middle.centroid.x, middle.centroid.y, middle.centroid.z);
 }
 
+static void call_load(void) {
+    static HosirekarCell records[2];
+    static float cells[55];
+    static uint32_t neighbours[12];
+    HosirekarCell second = {5, 6, 7, {8, 9, 10, 11}, {1, 2, 3, 4, 5, HOSIREKAR_NO_CELL}};
+    records[1] = second;
+    records[0].ends[23] = 4;
+    cells[54] = -1;
+    print_answer("load", hosirekar_heightmap_load(records, 2, cells, 55, neighbours, 12));
+    print_floats("its cells", cells + 26, 8);
+    print_floats("past them", cells + 54, 1);
+    printf("its neighbours: %u %u %u\n", (unsigned)neighbours[5], (unsigned)neighbours[6],
+           (unsigned)neighbours[11]);
+    print_answer("too short", hosirekar_heightmap_load(records, 2, cells, 53, neighbours, 12));
+}
+
 int main(void) {
     call_numbers();
     call_jobs();
+    call_load();
     call_stored();
     return 0;
 }

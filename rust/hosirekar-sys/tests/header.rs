@@ -12,7 +12,8 @@ use std::collections::BTreeSet;
 use std::mem::{offset_of, size_of};
 use std::path::Path;
 
-/// A name of the archive's in C, where all names share one space: `CPlane` is `HosirekarPlane`.
+/// A name of the archive's in C, where all names share one space: `CPlane` is `HosirekarPlane`. The
+/// record of a cell has no `C` before its name.
 fn c_type(kind: &str) -> String {
     let known = match kind {
         "f32" => "float",
@@ -21,6 +22,7 @@ fn c_type(kind: &str) -> String {
         "u16" => "uint16_t",
         "u32" => "uint32_t",
         "usize" => "size_t",
+        "Cell" => "HosirekarCell",
         _ => {
             let name = kind.strip_prefix('C').expect("a struct");
             return format!("Hosirekar{name}");
@@ -186,6 +188,7 @@ fn layouts() -> Vec<Layout> {
         CRange { given min max }
         COrigin { given at }
         CHeightMap { caps sides customs fringe range origin placement }
+        Cell { height x z ends neighbours }
     }
 }
 

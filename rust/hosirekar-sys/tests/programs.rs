@@ -36,6 +36,11 @@ plane: 0, 6 and 12
 its corner: 17 6 27
 map: 0, 0 and 0
 too far: 2, 0 and 0
+load: 0, 0 and 0
+its cells: 4 5 6 7 8 9 10 11
+past them: -1
+its neighbours: 0 1 4294967295
+too short: 1, 0 and 0
 scale: 0, 3 and 3
 offset: 0, 2 and 2
 vertices: 1 10 100 7 10 100 0 18 36

@@ -32,9 +32,11 @@ pub fn plain(text: &str) -> String {
         .join(" ")
 }
 
-/// All of the archive's source: the functions stand in `exports`, their structs in `boundary`.
+/// All of the archive's source: the functions stand in `exports`, their structs in `boundary`, and
+/// the record of a cell in `cells`.
 pub fn archive() -> String {
-    let folders = ["exports", "boundary"].map(|name| package().join("../../crates").join(name));
+    let folders =
+        ["exports", "boundary", "cells"].map(|name| package().join("../../crates").join(name));
     let mut files: Vec<PathBuf> = folders
         .iter()
         .flat_map(|folder| {
