@@ -146,13 +146,24 @@ pub(crate) trait Tested {
 
     /// The answer of a call that tests these numbers: where it is refused for one, with the place of that
     /// one. Nothing is looked for where the call is done, or where the place is known already.
+    #[inline]
     fn name_stray<T>(&self, answer: Result<T, Refusal>) -> Result<T, Refusal> {
-        answer.map_err(|why| match why {
+        match answer {
+            Ok(done) => Ok(done),
+            Err(why) => Err(self.named(why)),
+        }
+    }
+
+    /// The refusal with the place of the number, out of the way of calls that are done.
+    #[cold]
+    #[inline(never)]
+    fn named(&self, why: Refusal) -> Refusal {
+        match why {
             Refusal::Range(OutOfRange::UNKNOWN) => {
                 Refusal::Range(self.stray().unwrap_or(OutOfRange::UNKNOWN))
             }
             _ => why,
-        })
+        }
     }
 }
 
