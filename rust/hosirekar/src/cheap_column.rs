@@ -3,7 +3,7 @@
 use crate::placement::vec2;
 use crate::range::Tested;
 use crate::refusal::{answered, faces_told, window_told};
-use crate::{Counts, Job, MeshBuffers, OutOfRange, Refusal, Window};
+use crate::{Counts, Job, MeshBuffers, Refusal, Window};
 use hosirekar_sys::{
     hosirekar_cheap_column_build, hosirekar_cheap_column_face, hosirekar_cheap_column_faces,
     hosirekar_cheap_column_plan, hosirekar_cheap_column_window, CCheapColumn,
@@ -49,40 +49,40 @@ impl CheapColumn {
 
 impl Job for CheapColumn {
     fn plan(&self) -> Result<Counts, Refusal> {
-        answered(hosirekar_cheap_column_plan(
+        self.name_stray(answered(hosirekar_cheap_column_plan(
             self.job(),
             self.corners.as_flattened(),
-        ))
+        )))
     }
 
     fn faces(&self) -> Result<usize, Refusal> {
-        faces_told(hosirekar_cheap_column_faces(
+        self.name_stray(faces_told(hosirekar_cheap_column_faces(
             self.job(),
             self.corners.as_flattened(),
-        ))
+        )))
     }
 
     fn window(&self, face: usize) -> Result<Window, Refusal> {
-        window_told(hosirekar_cheap_column_window(
+        self.name_stray(window_told(hosirekar_cheap_column_window(
             self.job(),
             self.corners.as_flattened(),
             face,
-        ))
+        )))
     }
 
     fn build_into(&self, to: &mut MeshBuffers<'_>) -> Result<Counts, Refusal> {
-        answered(hosirekar_cheap_column_build(
+        self.name_stray(answered(hosirekar_cheap_column_build(
             self.job(),
             self.corners.as_flattened(),
             to.vertices.as_flattened_mut(),
             to.normals.as_flattened_mut(),
             to.uvs.as_flattened_mut(),
             to.indices,
-        ))
+        )))
     }
 
     fn build_face(&self, face: usize, to: &mut MeshBuffers<'_>) -> Result<Counts, Refusal> {
-        answered(hosirekar_cheap_column_face(
+        self.name_stray(answered(hosirekar_cheap_column_face(
             self.job(),
             self.corners.as_flattened(),
             face,
@@ -90,10 +90,6 @@ impl Job for CheapColumn {
             to.normals.as_flattened_mut(),
             to.uvs.as_flattened_mut(),
             to.indices,
-        ))
-    }
-
-    fn out_of_range(&self) -> Option<OutOfRange> {
-        self.stray()
+        )))
     }
 }

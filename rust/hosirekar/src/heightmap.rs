@@ -5,7 +5,7 @@ use crate::options::{Table, DEFAULT};
 use crate::placement::{placement, vec2};
 use crate::range::Tested;
 use crate::refusal::{answered, faces_told, window_told};
-use crate::{Counts, FaceOptions, Job, Mesh, MeshBuffers, OutOfRange, Refusal, Window};
+use crate::{Counts, FaceOptions, Job, Mesh, MeshBuffers, Refusal, Window};
 use hosirekar_sys::{
     hosirekar_heightmap_build, hosirekar_heightmap_face, hosirekar_heightmap_faces,
     hosirekar_heightmap_plan, hosirekar_heightmap_window, CHeightMap, COrigin, CRange,
@@ -270,7 +270,7 @@ impl ReadyHeightMap<'_> {
 
 impl Job for ReadyHeightMap<'_> {
     fn plan(&self) -> Result<Counts, Refusal> {
-        answered(hosirekar_heightmap_plan(
+        self.map.name_stray(answered(hosirekar_heightmap_plan(
             self.job,
             self.cells.as_flattened(),
             self.neighbours.as_flattened(),
@@ -279,11 +279,11 @@ impl Job for ReadyHeightMap<'_> {
             self.map.cap_corners.as_flattened(),
             self.table.numbers(),
             self.table.marks(),
-        ))
+        )))
     }
 
     fn faces(&self) -> Result<usize, Refusal> {
-        faces_told(hosirekar_heightmap_faces(
+        self.map.name_stray(faces_told(hosirekar_heightmap_faces(
             self.job,
             self.cells.as_flattened(),
             self.neighbours.as_flattened(),
@@ -292,11 +292,11 @@ impl Job for ReadyHeightMap<'_> {
             self.map.cap_corners.as_flattened(),
             self.table.numbers(),
             self.table.marks(),
-        ))
+        )))
     }
 
     fn window(&self, face: usize) -> Result<Window, Refusal> {
-        window_told(hosirekar_heightmap_window(
+        self.map.name_stray(window_told(hosirekar_heightmap_window(
             self.job,
             self.cells.as_flattened(),
             self.neighbours.as_flattened(),
@@ -306,11 +306,11 @@ impl Job for ReadyHeightMap<'_> {
             self.table.numbers(),
             self.table.marks(),
             face,
-        ))
+        )))
     }
 
     fn build_into(&self, to: &mut MeshBuffers<'_>) -> Result<Counts, Refusal> {
-        answered(hosirekar_heightmap_build(
+        self.map.name_stray(answered(hosirekar_heightmap_build(
             self.job,
             self.cells.as_flattened(),
             self.neighbours.as_flattened(),
@@ -323,11 +323,11 @@ impl Job for ReadyHeightMap<'_> {
             to.normals.as_flattened_mut(),
             to.uvs.as_flattened_mut(),
             to.indices,
-        ))
+        )))
     }
 
     fn build_face(&self, face: usize, to: &mut MeshBuffers<'_>) -> Result<Counts, Refusal> {
-        answered(hosirekar_heightmap_face(
+        self.map.name_stray(answered(hosirekar_heightmap_face(
             self.job,
             self.cells.as_flattened(),
             self.neighbours.as_flattened(),
@@ -341,11 +341,7 @@ impl Job for ReadyHeightMap<'_> {
             to.normals.as_flattened_mut(),
             to.uvs.as_flattened_mut(),
             to.indices,
-        ))
-    }
-
-    fn out_of_range(&self) -> Option<OutOfRange> {
-        self.map.out_of_range()
+        )))
     }
 }
 

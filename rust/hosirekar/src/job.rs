@@ -1,6 +1,6 @@
 //! What every job can be asked.
 
-use crate::{Counts, Mesh, MeshBuffers, OutOfRange, Refusal, Window};
+use crate::{Counts, Mesh, MeshBuffers, Refusal, Window};
 
 /// A [`Plane`](crate::Plane), a [`Column`](crate::Column), a [`CheapColumn`](crate::CheapColumn) or a
 /// [`HeightMap`](crate::HeightMap).
@@ -112,51 +112,38 @@ pub trait Job {
         let target = mesh.counts()?;
         mesh.append(target, self.plan()?, |to| self.build_into(to))
     }
-
-    /// The first of the job's numbers that is out of range, by the order of its fields. Where there is
-    /// one, every call is refused with [`Range`](Refusal::Range), or before it with
-    /// [`Shape`](Refusal::Shape).
-    ///
-    /// A job of your own has none, unless it says so itself.
-    fn out_of_range(&self) -> Option<OutOfRange> {
-        None
-    }
 }
 
-/// A job whose lists are made ready once for each call on it.
+/// A job whose lists are made ready once for each call on it, and which has the names of its numbers.
 macro_rules! job_made_ready {
     ($job:ty) => {
         impl Job for $job {
             fn plan(&self) -> Result<Counts, Refusal> {
-                self.ready().plan()
+                self.name_stray(self.ready().plan())
             }
 
             fn faces(&self) -> Result<usize, Refusal> {
-                self.ready().faces()
+                self.name_stray(self.ready().faces())
             }
 
             fn window(&self, face: usize) -> Result<Window, Refusal> {
-                self.ready().window(face)
+                self.name_stray(self.ready().window(face))
             }
 
             fn build_into(&self, to: &mut MeshBuffers<'_>) -> Result<Counts, Refusal> {
-                self.ready().build_into(to)
+                self.name_stray(self.ready().build_into(to))
             }
 
             fn build_face(&self, face: usize, to: &mut MeshBuffers<'_>) -> Result<Counts, Refusal> {
-                self.ready().build_face(face, to)
+                self.name_stray(self.ready().build_face(face, to))
             }
 
             fn build(&self) -> Result<Mesh, Refusal> {
-                self.ready().build()
+                self.name_stray(self.ready().build())
             }
 
             fn add_to(&self, mesh: &mut Mesh) -> Result<Counts, Refusal> {
-                self.ready().add_to(mesh)
-            }
-
-            fn out_of_range(&self) -> Option<OutOfRange> {
-                self.stray()
+                self.name_stray(self.ready().add_to(mesh))
             }
         }
     };

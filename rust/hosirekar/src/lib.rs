@@ -50,8 +50,18 @@
 //! assert_eq!(tall.build(), Err(Refusal::Limit));
 //! ```
 //!
-//! Of a job that is refused for its [`Range`](Refusal::Range), [`out_of_range`](Job::out_of_range) names
-//! the field and the entry.
+//! The refusal for a number out of range names its field and entry:
+//!
+//! ```
+//! use hosirekar::{Job, Plane};
+//!
+//! let mut plane = Plane::default();
+//! plane.corners[5][1] = -2e6;
+//! assert_eq!(
+//!     plane.build().unwrap_err().to_string(),
+//!     "corners[5][1] is -2000000: make it finite and at most 1,000,000 either way",
+//! );
+//! ```
 //!
 //! # Axes
 //!

@@ -1,6 +1,7 @@
 //! A mesh, the buffers that one is written to, and what is done with one that is made.
 
 use crate::placement::{vec2, vec3};
+use crate::range::{Field, Named, Tested};
 use crate::refusal::answered;
 use crate::{Job, Refusal};
 use hosirekar_sys::{
@@ -203,14 +204,14 @@ impl Mesh {
     ///
     /// [`Shape`](Refusal::Shape), [`Range`](Refusal::Range) of the scale, [`Limit`](Refusal::Limit).
     pub fn scale(&mut self, scale: [f32; 3]) -> Result<Counts, Refusal> {
-        answered(hosirekar_scale(
+        Named(Field::scale, &scale).name_stray(answered(hosirekar_scale(
             self.stored()?,
             vec3(scale),
             self.vertices.as_flattened_mut(),
             self.normals.as_flattened(),
             self.uvs.as_flattened(),
             &self.indices,
-        ))
+        )))
     }
 
     /// Adds to each position.
@@ -219,14 +220,14 @@ impl Mesh {
     ///
     /// [`Shape`](Refusal::Shape), [`Range`](Refusal::Range) of the offset, [`Limit`](Refusal::Limit).
     pub fn offset(&mut self, offset: [f32; 3]) -> Result<Counts, Refusal> {
-        answered(hosirekar_offset(
+        Named(Field::offset, &offset).name_stray(answered(hosirekar_offset(
             self.stored()?,
             vec3(offset),
             self.vertices.as_flattened_mut(),
             self.normals.as_flattened(),
             self.uvs.as_flattened(),
             &self.indices,
-        ))
+        )))
     }
 
     /// Multiplies each uv.
@@ -235,14 +236,14 @@ impl Mesh {
     ///
     /// [`Shape`](Refusal::Shape), [`Range`](Refusal::Range) of the scale, [`Limit`](Refusal::Limit).
     pub fn uv_scale(&mut self, scale: [f32; 2]) -> Result<Counts, Refusal> {
-        answered(hosirekar_texture_scale(
+        Named(Field::scale, &scale).name_stray(answered(hosirekar_texture_scale(
             self.stored()?,
             vec2(scale),
             self.vertices.as_flattened(),
             self.normals.as_flattened(),
             self.uvs.as_flattened_mut(),
             &self.indices,
-        ))
+        )))
     }
 
     /// The mesh with each position multiplied; [`scale`](Mesh::scale) keeps it where it is refused.

@@ -17,6 +17,8 @@ fn choice3(value: Option<[f32; 3]>) -> CChoice3 {
     }
 }
 
+// A plan is so short that a call for each part of its placement shows.
+#[inline]
 fn turn(rows: Option<[[f32; 3]; 3]>) -> CTurn {
     let [first, second, third] = rows.unwrap_or_default().map(vec3);
     CTurn {
@@ -27,6 +29,7 @@ fn turn(rows: Option<[[f32; 3]; 3]>) -> CTurn {
     }
 }
 
+#[inline]
 pub(crate) fn placement(
     scale: Option<[f32; 3]>,
     rotation: Option<[[f32; 3]; 3]>,

@@ -1,6 +1,6 @@
 //! Why a call is refused.
 
-use crate::{Counts, Window};
+use crate::{Counts, OutOfRange, Window};
 use hosirekar_sys::{CAnswer, CFaces, CWindow};
 use std::fmt;
 
@@ -14,33 +14,32 @@ use std::fmt;
 /// assert_eq!(why.to_string(), "the mesh has no vertices and so no centroid: build or merge into it first");
 /// ```
 #[derive(Clone, Copy, Debug, PartialEq, Eq, Hash)]
-#[repr(u8)]
 pub enum Refusal {
     /// A list has the wrong length: a mesh has not one normal and one uv for each vertex, or a height
     /// map not one entry a cell, more than 65,536 cells, or more than 64 different options.
-    Shape = 1,
-    /// A number is not finite, or above 1,000,000 either way. Of a job,
-    /// [`out_of_range`](crate::Job::out_of_range) says which.
-    Range = 2,
+    Shape,
+    /// A number is not finite, or above 1,000,000 either way: the first of the job, or of the argument
+    /// of a call on a mesh.
+    Range(OutOfRange),
     /// A neighbour is neither a cell nor none.
-    Neighbour = 3,
+    Neighbour,
     /// There would be more than 65,536 vertices, or more indices than so many have in any plan.
-    Limit = 4,
+    Limit,
     /// A lent buffer is shorter than the whole mesh needs.
-    Room = 5,
+    Room,
     /// The job has no face of that number.
-    NoFace = 6,
+    NoFace,
     /// A mesh to be merged has an index that is none of its vertices.
-    Index = 7,
+    Index,
     /// There is no centroid of no vertices.
-    Empty = 8,
+    Empty,
 }
 
 impl Refusal {
-    /// All of them, by their numbers from 1.
+    /// All of them, by their numbers from 1. Of the [`Range`](Refusal::Range) no place is known.
     pub const ALL: [Refusal; 8] = [
         Refusal::Shape,
-        Refusal::Range,
+        Refusal::Range(OutOfRange::UNKNOWN),
         Refusal::Neighbour,
         Refusal::Limit,
         Refusal::Room,
@@ -52,13 +51,25 @@ impl Refusal {
     /// Its number, 1 to 8.
     #[must_use]
     pub const fn number(self) -> u32 {
-        self as u32
+        match self {
+            Refusal::Shape => 1,
+            Refusal::Range(_) => 2,
+            Refusal::Neighbour => 3,
+            Refusal::Limit => 4,
+            Refusal::Room => 5,
+            Refusal::NoFace => 6,
+            Refusal::Index => 7,
+            Refusal::Empty => 8,
+        }
     }
 
-    /// The refusal of that number.
+    /// The refusal of that number. Of the [`Range`](Refusal::Range) no place is known.
     #[must_use]
-    pub fn from_number(number: u32) -> Option<Refusal> {
-        Refusal::ALL.into_iter().find(|why| why.number() == number)
+    pub const fn from_number(number: u32) -> Option<Refusal> {
+        match number {
+            1..=8 => Some(Refusal::ALL[number as usize - 1]),
+            _ => None,
+        }
     }
 }
 
@@ -68,9 +79,7 @@ impl fmt::Display for Refusal {
             Refusal::Shape => {
                 "lists do not fit together: give each vertex of a mesh one normal and one uv, and a map at most 65,536 cells, an entry for each of them, and 64 options"
             }
-            Refusal::Range => {
-                "a number is out of range: make each finite and at most 1,000,000 either way; out_of_range of the job says which it is"
-            }
+            Refusal::Range(stray) => return stray.fmt(f),
             Refusal::Neighbour => "a neighbour does not exist: name a cell of the map, or none",
             Refusal::Limit => {
                 "more than 65,536 vertices, or the indices of more: ask for fewer faces, parts or insets, or for several meshes"
@@ -89,7 +98,8 @@ impl fmt::Display for Refusal {
 
 impl std::error::Error for Refusal {}
 
-/// The counts, or the refusal, that a call answered.
+/// The counts, or the refusal, that a call answered. Which number is out of range is not known here:
+/// `Tested::name_stray` says it.
 pub(crate) fn answered(answer: CAnswer) -> Result<Counts, Refusal> {
     if answer.number == 0 {
         return Ok(Counts {

@@ -102,3 +102,14 @@ fn a_map_that_is_ready_asks_for_no_memory() {
     );
     assert_eq!(asked(|| map.add_to(&mut mesh).unwrap()), 3 + 4);
 }
+
+#[test]
+fn a_refusal_asks_for_no_memory() {
+    let mut map = heightmap();
+    map.offset = Some([0.0, 0.0, f32::NAN]);
+    let ready = map.ready();
+    assert_eq!(asked(|| ready.plan().unwrap_err()), 0);
+    let mut mesh = plane().build().unwrap();
+    assert_eq!(asked(|| mesh.add(&ready).unwrap_err()), 0);
+    assert_eq!(asked(|| mesh.scale([f32::NAN; 3]).unwrap_err()), 0);
+}

@@ -155,7 +155,8 @@ fn lists_have_an_entry_for_each_cell() {
         both.cells[0].neighbours[5] = Some(2);
         assert_eq!(both.plan(), Err(Refusal::Shape));
         both.custom_options = None;
-        assert_eq!(both.plan(), Err(Refusal::Range));
+        let why = both.plan().unwrap_err().to_string();
+        assert!(why.starts_with("cells[0].height is NaN: "), "{why}");
         both.cells[0].height = 0.0;
         assert_eq!(both.plan(), Err(Refusal::Neighbour));
     }
@@ -201,12 +202,13 @@ fn a_map_reaches_its_limits_and_does_not_pass_them() {
 fn the_ends_of_the_range_are_tested() {
     let past = f32::from_bits(1_000_000f32.to_bits() + 1);
     for x in [past, -past, f32::INFINITY, f32::NAN] {
-        for range in [x..=1.0, 1.0..=x] {
+        for (range, end) in [(x..=1.0, "start"), (1.0..=x, "end")] {
             let map = HeightMap {
                 height_range: Some(range),
                 ..heightmap()
             };
-            assert_eq!(map.plan(), Err(Refusal::Range));
+            let words = map.plan().unwrap_err().to_string();
+            assert!(words.starts_with(&format!("height_range.{end} is {x}: ")));
         }
     }
     let all = HeightMap {

@@ -93,20 +93,32 @@ fn positions_and_uvs_are_scaled_and_moved() {
     assert_eq!(Mesh::default().with_scale([2.0; 3]), Ok(Mesh::default()));
 }
 
+/// Refused for this number of that name.
+fn is_named<T: std::fmt::Debug>(answer: Result<T, Refusal>, name: &str, x: f32) {
+    let Err(Refusal::Range(stray)) = answer else {
+        panic!("{answer:?}");
+    };
+    assert_eq!(stray.field().to_string(), name);
+    assert_eq!(stray.value().to_bits(), x.to_bits());
+}
+
 #[test]
-fn a_parameter_out_of_range_changes_nothing() {
+fn a_parameter_out_of_range_is_named_and_changes_nothing() {
     let past = f32::from_bits(1_000_000f32.to_bits() + 1);
     let mut mesh = triangle();
     for x in [past, -past, f32::NAN, f32::INFINITY] {
         for k in 0..3 {
             let mut by = [1.0; 3];
             by[k] = x;
-            assert_eq!(mesh.scale(by), Err(Refusal::Range));
-            assert_eq!(mesh.offset(by), Err(Refusal::Range));
-            assert_eq!(triangle().with_offset(by), Err(Refusal::Range));
+            let (scale, offset) = (format!("scale[{k}]"), format!("offset[{k}]"));
+            is_named(mesh.scale(by), &scale, x);
+            is_named(triangle().with_scale(by), &scale, x);
+            is_named(mesh.offset(by), &offset, x);
+            is_named(triangle().with_offset(by), &offset, x);
         }
-        assert_eq!(mesh.uv_scale([x, 1.0]), Err(Refusal::Range));
-        assert_eq!(mesh.uv_scale([1.0, x]), Err(Refusal::Range));
+        is_named(mesh.uv_scale([x, x]), "scale[0]", x);
+        is_named(mesh.uv_scale([1_000_000.0, x]), "scale[1]", x);
+        is_named(triangle().with_uv_scale([1.0, x]), "scale[1]", x);
     }
     assert_eq!(mesh, triangle());
     // What is stored may be anything.
@@ -187,7 +199,9 @@ fn a_refused_job_leaves_the_mesh_as_it_was() {
         position: [f32::NAN, 0.0],
         ..plane()
     };
-    a_refused_job_is_not_added(triangle(), &far, Refusal::Range);
+    let why = far.plan().unwrap_err();
+    is_named(far.plan(), "position[0]", f32::NAN);
+    a_refused_job_is_not_added(triangle(), &far, why);
     let mut odd = triangle();
     odd.uvs.pop();
     a_refused_job_is_not_added(odd, &far, Refusal::Shape);

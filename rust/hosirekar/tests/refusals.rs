@@ -4,251 +4,347 @@ mod common;
 use common::*;
 use hosirekar::*;
 
-/// Every number of a plane.
-fn plane_numbers(plane: &mut Plane) -> Vec<&mut f32> {
-    let mut numbers: Vec<&mut f32> = plane.corners.as_flattened_mut().iter_mut().collect();
-    numbers.extend(&mut plane.position);
-    numbers.extend(option_numbers(&mut plane.options));
-    numbers.extend(plane.scale.as_mut().unwrap());
-    numbers.extend(plane.rotation.as_mut().unwrap().as_flattened_mut());
-    numbers.extend(plane.offset.as_mut().unwrap());
+/// Numbers, each with the name that a refusal must have for it, in the order of the fields.
+type Numbers<'a> = Vec<(String, &'a mut f32)>;
+
+fn list<'a>(name: &str, numbers: &'a mut [f32]) -> Numbers<'a> {
+    let entry = |(k, number)| (format!("{name}[{k}]"), number);
+    numbers.iter_mut().enumerate().map(entry).collect()
+}
+
+fn lists<'a, const N: usize>(name: &str, all: &'a mut [[f32; N]]) -> Numbers<'a> {
+    let entry = |(k, own): (usize, &'a mut [f32; N])| list(&format!("{name}[{k}]"), own);
+    all.iter_mut().enumerate().flat_map(entry).collect()
+}
+
+fn ends<'a>(name: &str, sides: &'a mut [[[f32; 2]; 2]]) -> Numbers<'a> {
+    let entry = |(k, two): (usize, &'a mut [[f32; 2]; 2])| lists(&format!("{name}[{k}]"), two);
+    sides.iter_mut().enumerate().flat_map(entry).collect()
+}
+
+fn face<'a>(name: &str, options: &'a mut FaceOptions) -> Numbers<'a> {
+    let FaceOptions { uv, insetting } = options;
+    let mut numbers = list(&format!("{name}.uv.scale_factor"), &mut uv.scale_factor);
+    numbers.extend(list(&format!("{name}.uv.offset"), &mut uv.offset));
+    numbers.extend(list(&format!("{name}.uv.rect.min"), &mut uv.rect.min));
+    numbers.extend(list(&format!("{name}.uv.rect.max"), &mut uv.rect.max));
+    let inset = insetting.iter_mut().map(|inset| &mut inset.scale);
+    numbers.extend(inset.map(|scale| (format!("{name}.insetting.scale"), scale)));
     numbers
 }
 
-fn option_numbers(options: &mut FaceOptions) -> Vec<&mut f32> {
-    let uv = &mut options.uv;
-    let mut numbers: Vec<&mut f32> = uv.scale_factor.iter_mut().collect();
-    numbers.extend(&mut uv.offset);
-    numbers.extend(&mut uv.rect.min);
-    numbers.extend(&mut uv.rect.max);
-    numbers.extend(options.insetting.as_mut().map(|inset| &mut inset.scale));
-    numbers
+/// Those of faces that are there.
+fn faces<'a>(name: &str, all: &'a mut [Option<FaceOptions>]) -> Numbers<'a> {
+    let there = all
+        .iter_mut()
+        .enumerate()
+        .filter_map(|(k, own)| Some((k, own.as_mut()?)));
+    let entry = |(k, own): (usize, &'a mut _)| face(&format!("{name}[{k}]"), own);
+    there.flat_map(entry).collect()
 }
 
-/// Every number of a column, those of absent sides and caps too.
-fn column_numbers(column: &mut Column) -> Vec<&mut f32> {
-    let ends = column.side_ends.as_flattened_mut().as_flattened_mut();
-    let mut numbers: Vec<&mut f32> = ends.iter_mut().collect();
-    numbers.push(&mut column.height);
-    numbers.extend(column.cap_corners.as_flattened_mut());
-    numbers.extend(column.sides.iter_mut().flatten().flat_map(option_numbers));
-    numbers.extend(column.top.iter_mut().flat_map(option_numbers));
-    numbers.extend(column.bottom.iter_mut().flat_map(option_numbers));
-    numbers.extend(&mut column.position);
-    numbers.extend(column.scale.as_mut().unwrap());
-    numbers.extend(column.rotation.as_mut().unwrap().as_flattened_mut());
-    numbers.extend(column.offset.as_mut().unwrap());
-    numbers
-}
+/// A job whose every number can be lent.
+trait Numbered: Job + Clone {
+    /// All that it has, but for a height range, which lends none.
+    fn numbers(&mut self) -> Numbers<'_>;
 
-fn cheap_column_numbers(column: &mut CheapColumn) -> Vec<&mut f32> {
-    let mut numbers: Vec<&mut f32> = column.corners.as_flattened_mut().iter_mut().collect();
-    numbers.extend(&mut column.centre);
-    numbers.push(&mut column.height);
-    numbers
-}
-
-/// Every number of a map but its height range, which lends none.
-fn map_numbers(map: &mut HeightMap) -> Vec<&mut f32> {
-    let mut numbers: Vec<&mut f32> = map.cap_corners.as_flattened_mut().iter_mut().collect();
-    for cell in &mut map.cells {
-        numbers.push(&mut cell.height);
-        numbers.extend(&mut cell.position);
-        numbers.extend(cell.side_ends.as_flattened_mut().as_flattened_mut());
+    /// Holds it to what is wanted of it, and what it makes ready.
+    fn held(&self, hold: impl Fn(&dyn Job))
+    where
+        Self: Sized,
+    {
+        hold(self);
     }
-    if let Fringe::Heights(heights) = &mut map.fringe {
-        numbers.extend(heights.as_flattened_mut());
+}
+
+impl Numbered for Plane {
+    fn numbers(&mut self) -> Numbers<'_> {
+        let mut numbers = lists("corners", &mut self.corners);
+        numbers.extend(list("position", &mut self.position));
+        numbers.extend(face("options", &mut self.options));
+        numbers.extend(list("scale", self.scale.as_mut().unwrap()));
+        numbers.extend(lists("rotation", self.rotation.as_mut().unwrap()));
+        numbers.extend(list("offset", self.offset.as_mut().unwrap()));
+        numbers
     }
-    for own in map.custom_options.iter_mut().flatten() {
-        numbers.extend(own.cap.iter_mut().flat_map(option_numbers));
-        numbers.extend(own.sides.iter_mut().flatten().flat_map(option_numbers));
+}
+
+impl Numbered for Column {
+    fn numbers(&mut self) -> Numbers<'_> {
+        let mut numbers = vec![("height".to_string(), &mut self.height)];
+        numbers.extend(ends("side_ends", &mut self.side_ends));
+        numbers.extend(faces("sides", &mut self.sides));
+        numbers.extend(lists("cap_corners", &mut self.cap_corners));
+        numbers.extend(self.top.iter_mut().flat_map(|own| face("top", own)));
+        numbers.extend(self.bottom.iter_mut().flat_map(|own| face("bottom", own)));
+        numbers.extend(list("position", &mut self.position));
+        numbers.extend(list("scale", self.scale.as_mut().unwrap()));
+        numbers.extend(lists("rotation", self.rotation.as_mut().unwrap()));
+        numbers.extend(list("offset", self.offset.as_mut().unwrap()));
+        numbers
     }
-    numbers.extend(map.caps.iter_mut().flat_map(option_numbers));
-    numbers.extend(map.sides.iter_mut().flat_map(option_numbers));
-    numbers.extend(map.origin.as_mut().unwrap());
-    numbers.extend(map.scale.as_mut().unwrap());
-    numbers.extend(map.rotation.as_mut().unwrap().as_flattened_mut());
-    numbers.extend(map.offset.as_mut().unwrap());
+}
+
+impl Numbered for CheapColumn {
+    fn numbers(&mut self) -> Numbers<'_> {
+        let mut numbers = lists("corners", &mut self.corners);
+        numbers.extend(list("centre", &mut self.centre));
+        numbers.push(("height".to_string(), &mut self.height));
+        numbers
+    }
+}
+
+fn cell_numbers((k, cell): (usize, &mut Cell)) -> Numbers<'_> {
+    let mut numbers = vec![(format!("cells[{k}].height"), &mut cell.height)];
+    numbers.extend(list(&format!("cells[{k}].position"), &mut cell.position));
+    numbers.extend(ends(&format!("cells[{k}].side_ends"), &mut cell.side_ends));
     numbers
 }
+
+fn custom_numbers((k, own): (usize, &mut CellOptions)) -> Numbers<'_> {
+    let name = format!("custom_options[{k}]");
+    let cap = own.cap.iter_mut();
+    let mut numbers: Numbers<'_> = cap
+        .flat_map(|cap| face(&format!("{name}.cap"), cap))
+        .collect();
+    numbers.extend(faces(&format!("{name}.sides"), &mut own.sides));
+    numbers
+}
+
+impl Numbered for HeightMap {
+    fn numbers(&mut self) -> Numbers<'_> {
+        let cells = self.cells.iter_mut().enumerate();
+        let mut numbers: Numbers<'_> = cells.flat_map(cell_numbers).collect();
+        numbers.extend(lists("cap_corners", &mut self.cap_corners));
+        numbers.extend(self.caps.iter_mut().flat_map(|own| face("caps", own)));
+        numbers.extend(self.sides.iter_mut().flat_map(|own| face("sides", own)));
+        let customs = self.custom_options.iter_mut().flatten().enumerate();
+        numbers.extend(customs.flat_map(custom_numbers));
+        if let Fringe::Heights(heights) = &mut self.fringe {
+            numbers.extend(lists("fringe", heights));
+        }
+        numbers.extend(list("origin", self.origin.as_mut().unwrap()));
+        numbers.extend(list("scale", self.scale.as_mut().unwrap()));
+        numbers.extend(lists("rotation", self.rotation.as_mut().unwrap()));
+        numbers.extend(list("offset", self.offset.as_mut().unwrap()));
+        numbers
+    }
+
+    fn held(&self, hold: impl Fn(&dyn Job)) {
+        hold(self);
+        hold(&self.ready());
+    }
+}
+
+fn names(job: &impl Numbered) -> Vec<String> {
+    let mut job = job.clone();
+    job.numbers().into_iter().map(|(name, _)| name).collect()
+}
+
+/// The number that the plan is refused for.
+fn stray(job: &dyn Job) -> OutOfRange {
+    match job.plan() {
+        Err(Refusal::Range(stray)) => stray,
+        answer => panic!("{answer:?}"),
+    }
+}
+
+/// Enough for each job of which every number is tested.
+const ROOM: Counts = Counts {
+    vertices: 200,
+    indices: 600,
+};
+
+/// Every call is refused for this number of that name, and writes nothing.
+fn every_call_names(job: &dyn Job, name: &str, x: f32) {
+    let stray = stray(job);
+    assert_eq!(stray.field().to_string(), name);
+    assert_eq!(stray.value().to_bits(), x.to_bits(), "{name}");
+    let why = Refusal::Range(stray);
+    let (fresh, mut none) = (filled(ROOM.vertices, ROOM.indices), Mesh::default());
+    let mut mesh = fresh.clone();
+    assert_eq!(job.faces(), Err(why));
+    assert_eq!(job.build(), Err(why));
+    assert_eq!(job.build_into(&mut mesh.buffers()), Err(why));
+    assert_eq!(mesh.add(job), Err(why));
+    // The range is tested before the face's number and the room.
+    for face in [0, 999] {
+        assert_eq!(job.window(face), Err(why));
+        assert_eq!(job.build_face(face, &mut mesh.buffers()), Err(why));
+        assert_eq!(job.build_face(face, &mut none.buffers()), Err(why));
+    }
+    assert_eq!(job.build_into(&mut none.buffers()), Err(why));
+    assert_eq!(mesh, fresh);
+}
+
+const PAST: f32 = f32::from_bits(1_000_000f32.to_bits() + 1);
 
 /// Each number in turn at its limit, and past it. At the limit a map may have other walls.
-fn every_number_is_tested<J: Job + Clone>(
-    job: J,
-    counts_stay: bool,
-    numbers: fn(&mut J) -> Vec<&mut f32>,
-) {
+fn every_number_is_tested<J: Numbered>(job: &J, counts_stay: bool) {
     let counts = job.plan().unwrap();
-    let fresh = filled(counts.vertices, counts.indices);
-    let past = f32::from_bits(1_000_000f32.to_bits() + 1);
-    for k in 0..numbers(&mut job.clone()).len() {
+    assert!(counts.vertices <= ROOM.vertices && counts.indices <= ROOM.indices);
+    for (k, name) in names(job).iter().enumerate() {
         let with = |x| {
             let mut changed = job.clone();
-            *numbers(&mut changed)[k] = x;
+            *changed.numbers()[k].1 = x;
             changed
         };
         for x in [1_000_000.0, -1_000_000.0, -0.0] {
-            assert_eq!(with(x).out_of_range(), None);
             let planned = with(x).plan().unwrap();
             assert!(planned == counts || !counts_stay);
         }
-        for x in [past, -past, f32::INFINITY, f32::NEG_INFINITY, f32::NAN] {
-            let (job, mut mesh) = (with(x), fresh.clone());
-            assert_eq!(job.plan(), Err(Refusal::Range));
-            assert_eq!(job.faces(), Err(Refusal::Range));
-            assert_eq!(job.window(99), Err(Refusal::Range));
-            let value = job.out_of_range().map(|stray| stray.value.to_bits());
-            assert_eq!(value, Some(x.to_bits()));
-            assert!(matches!(job.build(), Err(Refusal::Range)));
-            assert_eq!(job.build_into(&mut mesh.buffers()), Err(Refusal::Range));
-            // The range is tested before the face's number.
-            assert_eq!(job.build_face(99, &mut mesh.buffers()), Err(Refusal::Range));
-            assert_eq!(mesh, fresh);
+        for x in [PAST, -PAST, f32::INFINITY, f32::NEG_INFINITY, f32::NAN] {
+            with(x).held(|job| every_call_names(job, name, x));
         }
     }
 }
 
-/// What each number is called where it is out of range, in the order of the list.
-fn names<J: Job + Clone>(job: &J, numbers: fn(&mut J) -> Vec<&mut f32>) -> Vec<String> {
-    let count = numbers(&mut job.clone()).len();
-    let name = |k: usize| {
-        let mut changed = job.clone();
-        *numbers(&mut changed)[k] = f32::INFINITY;
-        changed.out_of_range().unwrap().field
+/// All numbers out of range at once, and the one that is named put at the limit, until none is.
+fn the_first_is_named(job: &impl Numbered) {
+    let mut job = job.clone();
+    for (_, number) in job.numbers() {
+        *number = -PAST;
+    }
+    for (k, name) in names(&job).iter().enumerate() {
+        job.held(|job| every_call_names(job, name, -PAST));
+        *job.numbers()[k].1 = -1_000_000.0;
+    }
+    job.plan().unwrap();
+}
+
+#[test]
+fn of_several_numbers_out_of_range_the_first_is_named() {
+    the_first_is_named(&plane());
+    the_first_is_named(&column());
+    the_first_is_named(&cheap_column());
+    the_first_is_named(&heightmap());
+}
+
+#[test]
+fn the_names_are_those_of_the_fields() {
+    let some = |names: Vec<String>, wanted: &[&str]| {
+        for name in wanted {
+            assert!(names.iter().any(|own| own == name), "{name}");
+        }
+        names.len()
     };
-    (0..count).map(name).collect()
-}
-
-fn all_differ(names: &[String]) -> bool {
-    let mut sorted = names.to_vec();
-    sorted.sort();
-    sorted.windows(2).all(|two| two[0] != two[1])
-}
-
-#[test]
-fn a_number_of_a_plane_out_of_range_is_named() {
-    let plane = names(&plane(), plane_numbers);
-    assert!(all_differ(&plane));
-    let some = [0, 5, 13, 14, 17, 18, 21, 22, 23, 25, 26, 34, 37].map(|k| plane[k].as_str());
-    let wanted = [
-        "corners[0][0]",
-        "corners[2][1]",
-        "position[1]",
-        "options.uv.scale_factor[0]",
-        "options.uv.offset[1]",
-        "options.uv.rect.min[0]",
-        "options.uv.rect.max[1]",
-        "options.insetting.scale",
-        "scale[0]",
-        "scale[2]",
-        "rotation[0][0]",
-        "rotation[2][2]",
-        "offset[2]",
-    ];
-    assert_eq!(some, wanted);
-}
-
-#[test]
-fn a_number_of_a_column_out_of_range_is_named() {
-    let column = names(&column(), column_numbers);
-    assert!(all_differ(&column));
-    let some = [0, 7, 23, 24, 36, 37, 53].map(|k| column[k].as_str());
-    let wanted = [
-        "side_ends[0][0][0]",
-        "side_ends[1][1][1]",
-        "side_ends[5][1][1]",
-        "height",
-        "cap_corners[5][1]",
-        "sides[0].uv.scale_factor[0]",
-        "sides[1].insetting.scale",
-    ];
-    assert_eq!(some, wanted);
-    for name in ["top.uv.offset[0]", "bottom.insetting.scale", "position[0]"] {
-        assert!(column.iter().any(|own| own == name));
-    }
-    let cheap = names(&cheap_column(), cheap_column_numbers);
-    assert!(all_differ(&cheap));
-    assert_eq!(
-        cheap[11..],
-        ["corners[5][1]", "centre[0]", "centre[1]", "height"]
+    let plane = some(
+        names(&plane()),
+        &["corners[2][1]", "options.insetting.scale"],
     );
+    let column = some(
+        names(&column()),
+        &["side_ends[5][1][1]", "bottom.uv.offset[0]"],
+    );
+    let cheap = some(names(&cheap_column()), &["centre[1]", "height"]);
+    let deepest = "custom_options[2].sides[4].uv.rect.max[1]";
+    let map = some(
+        names(&heightmap()),
+        &["cells[2].side_ends[5][0][1]", deepest],
+    );
+    assert_eq!([plane, column, cheap], [38, 124, 15]);
+    assert_eq!(map, 207);
 }
 
 #[test]
-fn a_number_of_a_map_out_of_range_is_named() {
-    let map = names(&heightmap(), map_numbers);
-    assert!(all_differ(&map));
-    let some = [11, 12, 14, 15, 38, 39, 92, 93, 110, 111].map(|k| map[k].as_str());
-    let wanted = [
-        "cap_corners[5][1]",
-        "cells[0].height",
-        "cells[0].position[1]",
-        "cells[0].side_ends[0][0][0]",
-        "cells[0].side_ends[5][1][1]",
-        "cells[1].height",
-        "cells[2].side_ends[5][1][1]",
-        "fringe[0][0]",
-        "fringe[2][5]",
-        "custom_options[0].cap.uv.scale_factor[0]",
-    ];
-    assert_eq!(some, wanted);
-    for name in [
-        "custom_options[2].sides[4].insetting.scale",
-        "caps.uv.rect.max[0]",
-        "sides.uv.offset[1]",
-        "origin[0]",
-        "scale[1]",
-        "rotation[1][2]",
-        "offset[0]",
+fn an_end_of_a_height_range_is_named() {
+    for (range, name, x) in [
+        (f32::NAN..=2e6, "height_range.start", f32::NAN),
+        (0.0..=2e6, "height_range.end", 2e6),
     ] {
-        assert!(map.iter().any(|own| own == name), "{name}");
-    }
-    for (range, name) in [
-        (f32::NAN..=1.0, "height_range.start"),
-        (0.0..=2e6, "height_range.end"),
-    ] {
-        let map = HeightMap {
+        let mut map = HeightMap {
             height_range: Some(range),
             ..heightmap()
         };
-        assert_eq!(map.out_of_range().unwrap().field, name);
-        assert_eq!(map.ready().out_of_range().unwrap().field, name);
+        map.held(|job| every_call_names(job, name, x));
+        // It stands between the fringe and the origin.
+        map.origin = Some([f32::NAN; 2]);
+        map.held(|job| every_call_names(job, name, x));
+        map.fringe = Fringe::Heights(vec![[3e6; 6]; 3]);
+        map.held(|job| every_call_names(job, "fringe[0][0]", 3e6));
     }
+}
+
+#[test]
+fn the_last_cell_of_the_longest_map_is_named() {
+    let mut map = HeightMap {
+        caps: None,
+        ..HeightMap::new(CORNERS, vec![cell(1.0, [0.0, 0.0]); 65_536])
+    };
+    map.cells[65_535].side_ends[5][1][1] = f32::NAN;
+    every_call_names(&map, "cells[65535].side_ends[5][1][1]", f32::NAN);
+    // One cell more is another refusal, whatever its numbers.
+    map.cells.push(map.cells[65_535]);
+    assert_eq!(map.plan(), Err(Refusal::Shape));
 }
 
 #[test]
 fn what_is_not_given_is_not_out_of_range() {
     let mut map = heightmap();
     map.caps.as_mut().unwrap().uv.offset[0] = f32::NAN;
-    assert_eq!(map.out_of_range().unwrap().field, "caps.uv.offset[0]");
+    every_call_names(&map, "caps.uv.offset[0]", f32::NAN);
     map.caps = None;
-    assert_eq!((map.out_of_range(), map.plan().err()), (None, None));
-    assert_eq!(Boast(Counts::default()).out_of_range(), None);
-    let mut stray = heightmap();
-    stray.cells[2].height = -2_000_000.5;
+    assert_eq!(map.plan().err(), None);
+}
+
+#[test]
+fn a_refusal_says_which_number_it_is() {
+    let mut map = heightmap();
+    map.cells[2].height = -2_000_000.5;
+    let why = map.plan().unwrap_err();
     let words = "cells[2].height is -2000000.5: make it finite and at most 1,000,000 either way";
-    assert_eq!(stray.out_of_range().unwrap().to_string(), words);
+    assert_eq!((why.to_string(), why.number()), (words.to_string(), 2));
+    assert_eq!(stray(&map).to_string(), words);
+    let debug = "Range(OutOfRange { field: cells[2].height, value: -2000000.5 })";
+    assert_eq!(format!("{why:?}"), debug);
+    // Other bits or another place make another refusal, and the same NaN the same.
+    map.cells[2].height = f32::NAN;
+    let nan = map.plan().unwrap_err();
+    assert_eq!(map.plan(), Err(nan));
+    assert_ne!(nan, why);
+    map.cells.swap(1, 2);
+    assert_ne!(map.plan(), Err(nan));
+}
+
+#[test]
+fn a_refusal_is_small_and_copied() {
+    fn copied<T: Copy + Eq + std::hash::Hash + Send + Sync + 'static>(_: T) {}
+    copied(Refusal::ALL);
+    copied(OutOfRange::UNKNOWN);
+    assert!(size_of::<Result<Counts, Refusal>>() <= 64);
+}
+
+#[test]
+fn a_number_of_which_nothing_is_known_has_no_name() {
+    let Some(Refusal::Range(none)) = Refusal::from_number(2) else {
+        panic!("2 is the range");
+    };
+    assert_eq!(none, OutOfRange::UNKNOWN);
+    assert_eq!(none.field().to_string(), "");
+    assert!(none.value().is_nan());
+    let words = "a number is out of range: make each finite and at most 1,000,000 either way";
+    assert_eq!(Refusal::Range(none).to_string(), words);
 }
 
 #[test]
 fn every_number_of_a_job_is_tested() {
-    every_number_is_tested(plane(), true, plane_numbers);
-    every_number_is_tested(column(), true, column_numbers);
-    every_number_is_tested(cheap_column(), true, cheap_column_numbers);
-    every_number_is_tested(heightmap(), false, map_numbers);
+    every_number_is_tested(&plane(), true);
+    every_number_is_tested(&column(), true);
+    every_number_is_tested(&cheap_column(), true);
+    every_number_is_tested(&heightmap(), false);
     let off = HeightMap {
         caps: None,
         sides: None,
         ..heightmap()
     };
-    every_number_is_tested(off, true, map_numbers);
+    every_number_is_tested(&off, true);
     let bare = Column {
         sides: [None; 6],
         top: None,
         bottom: None,
         ..column()
     };
-    every_number_is_tested(bare, true, column_numbers);
+    every_number_is_tested(&bare, true);
 }
 
 #[test]
@@ -269,7 +365,7 @@ fn too_many_vertices_are_refused_after_numbers_and_before_faces_and_room() {
         height: f32::NAN,
         ..tall
     };
-    assert_eq!(both.build_into(&mut mesh.buffers()), Err(Refusal::Range));
+    every_call_names(&both, "height", f32::NAN);
     assert_eq!(mesh, filled(1, 1));
 }
 

@@ -122,13 +122,22 @@ fn there_is_no_middle() -> Result<(), String> {
     hold("middle", ours(&none).uv_centroid(), Err(Refusal::Empty))
 }
 
+/// Refused for the number of that name.
+fn hold_range<T>(what: &str, answer: Result<T, Refusal>, name: &str) -> Result<(), String> {
+    let words = format!("{name} is {TOO_GREAT}: ");
+    match answer {
+        Err(why) if why.number() == 2 => hold(what, why.to_string().starts_with(&words), true),
+        answer => Err(format!("{what}: {:?}", answer.err())),
+    }
+}
+
 fn a_parameter_is_too_great() -> Result<(), String> {
     let by = Vec3::new(1.0, 1.0, TOO_GREAT);
     let one = mesh(1, &[]).with_offset(Vec3::ONE);
     let grown = one.clone().with_scale(by).vertices[0];
     hold("hexx takes it", grown, by)?;
     let mut stays = ours(&one);
-    hold("scale", stays.scale(by.to_array()), Err(Refusal::Range))?;
+    hold_range("scale", stays.scale(by.to_array()), "scale[2]")?;
     hold("mesh", stays == ours(&one), true)
 }
 
@@ -150,8 +159,8 @@ fn a_corner_is_too_great() -> Result<(), String> {
         standing: standing(vec2(TOO_GREAT, 0.0)),
     };
     hold("hexx takes it", plane.hexx().vertices.len(), 6)?;
-    hold("plan", plane.safe().plan(), Err(Refusal::Range))?;
-    hold("build", plane.safe().build(), Err(Refusal::Range))
+    hold_range("plan", plane.safe().plan(), "position[0]")?;
+    hold_range("build", plane.safe().build(), "position[0]")
 }
 
 /// The first sides with so many parts, and a plain top or none.

@@ -6,7 +6,7 @@ use crate::buffers::{Buffers, Counts};
 use crate::compare::{Trial, hold, hold_buffers};
 use crate::limits::VERTICES;
 use crate::safe::{lent, lists};
-use hosirekar::{self as safe, Job, Mesh, Refusal, Window};
+use hosirekar::{self as safe, Job, Mesh, OutOfRange, Refusal, Window};
 
 /// The answer of a call that is done.
 fn done(counts: Counts) -> Result<safe::Counts, Refusal> {
@@ -43,7 +43,6 @@ pub fn parts(job: &impl Job, trial: &Trial, faces: &[usize]) -> Result<(), Strin
 fn told(job: &impl Job, trial: &Trial, faces: &[usize]) -> Result<(), String> {
     let count = trial.faces();
     hold("safe plan", job.plan(), done(Counts::of(&trial.mesh)))?;
-    hold("safe range", job.out_of_range(), None)?;
     hold("safe faces", job.faces(), Ok(count))?;
     let none = [count, count + 1, count + 65_536, usize::MAX];
     for &face in faces.iter().chain(&none) {
@@ -95,13 +94,23 @@ fn behind_itself(job: &impl Job, mesh: &MeshInfo) -> Result<(), String> {
     hold_mesh("safe add", twice, &wanted)
 }
 
-/// Refused with this number, whatever is asked for. The safe crate knows of a
-/// number out of range by itself; a shape is looked at before it.
+/// Where it is refused for a number, that one is named and is out of range.
+fn named(why: Refusal) -> Result<(), String> {
+    let Refusal::Range(stray) = why else {
+        return Ok(());
+    };
+    let lawful = stray.value().abs() <= 1e6;
+    hold("safe range", lawful || stray == OutOfRange::UNKNOWN, false)
+}
+
+/// Refused with this number, whatever is asked for, and each time for the same
+/// reason.
 pub fn refused(job: &impl Job, number: u32) -> Result<(), String> {
-    let why = Refusal::from_number(number).ok_or("no refusal has that number")?;
+    let why = job.plan().err().ok_or("the plan is not refused")?;
+    hold("safe number", why.number(), number)?;
+    named(why)?;
     let untouched = Buffers::marked([66, 66, 44, 64]);
     let mut buffers = untouched.clone();
-    hold("safe plan", job.plan(), Err(why))?;
     hold("safe build", job.build().map(drop), Err(why))?;
     hold("safe add", Mesh::default().add(job), Err(why))?;
     hold("safe faces", job.faces(), Err(why))?;
@@ -110,12 +119,5 @@ pub fn refused(job: &impl Job, number: u32) -> Result<(), String> {
         let answer = job.build_face(face, &mut lent(&mut buffers));
         hold("safe face", answer, Err(why))?;
     }
-    hold_buffers("safe face", &buffers, &untouched)?;
-    match why {
-        Refusal::Shape => Ok(()),
-        _ => {
-            let stray = job.out_of_range().is_some();
-            hold("safe range", stray, why == Refusal::Range)
-        }
-    }
+    hold_buffers("safe face", &buffers, &untouched)
 }
