@@ -1,7 +1,9 @@
 -- A height map's cells as a list of records, and the two flat lists that stand for it; B11, B12 and O9 are rows of docs/TRACE.md. Definitions only.
 use Prim.Native.Nat.{ℕ, _*_}
+use mathlib.Core.Path.{_≡_}
 use mathlib.Core.Bool.{Bool, _&&_, cond}
 use mathlib.Core.List.{List, [], _∷_}
+use denote.Ref.{now}
 use lib.ListN.{length, getD, replicate}
 use lib.Dec.{leb}
 use lib.Ieee.{Float, nan}
@@ -12,6 +14,7 @@ use Rattle.answer.specs.declared.answer.Refusal.the-variants.{Shape}
 use Rattle.answer.specs.Checks.{cellCount}
 use Rattle.buffers.specs.Mesh.{none}
 use Rattle.buffers.specs.Laying.{spread, laid}
+use Rattle.buffers.specs.Lent.{Lent}
 use Rattle.cells.specs.declared.Cell.{Cell}
 
 -- past the end of the list: a cell of NaNs
@@ -56,6 +59,13 @@ numbersLoaded cs l m = cond (loadable (length cs) (length l) (length m)) (laid l
 unfoldable pub neighboursLoaded : List Cell → List Float → List ℕ → List ℕ
 neighboursLoaded cs l m = cond (loadable (length cs) (length l) (length m)) (laid m 0 (flatNeighbours cs)) m
 
+-- a load as a promise has it: what is told of its answer, and what both lists hold when it is left
+abbrev pub loading : {R : Type 0} → (Answer → R) → Lent Cell → Lent Float → Lent ℕ → R → Type 0
+loading told rs l m r =
+    (r ≡ told (loadAnswer (length (now (rs .entry))) (length (now (l .entry))) (length (now (m .entry)))))
+    × (now (l .exit) ≡ numbersLoaded (now (rs .entry)) (now (l .entry)) (now (m .entry)))
+    × (now (m .exit) ≡ neighboursLoaded (now (rs .entry)) (now (l .entry)) (now (m .entry)))
+
 -- ---- what the parts of the code hand each other: the first n cells
 unfoldable pub loadCount : ℕ → ℕ → ℕ → ℕ
 loadCount n l m = cond (loadable n l m) n 0
@@ -65,3 +75,7 @@ numbersTo cs n l = laid l 0 (chain (λ k. numbersOf (cellAt cs k)) n)
 
 unfoldable pub neighboursTo : List Cell → ℕ → List ℕ → List ℕ
 neighboursTo cs n l = laid l 0 (chain (λ k. neighboursOf (cellAt cs k)) n)
+
+-- and one of them, stored as the k-th
+abbrev pub storing : Cell → ℕ → Lent Float → Lent ℕ → Type 0
+storing c k l m = (now (l .exit) ≡ laid (now (l .entry)) (27 * k) (numbersOf c)) × (now (m .exit) ≡ laid (now (m .entry)) (6 * k) (neighboursOf c))

@@ -4,7 +4,7 @@ ghost use mathlib.Core.Path.{_≡_};
 ghost use Prim.Native.Nat.{_<_, _≤_, _+_, _*_};
 ghost use lib.ListN.{length};
 ghost use Rattle.buffers.specs.Laying.{laid};
-ghost use Rattle.cells.specs.Cells.{cellAt, numbersOf, neighboursOf, endsOf, wordsOf, numbersTo, neighboursTo, loadable, loadCount, loadAnswer, numbersLoaded, neighboursLoaded};
+ghost use Rattle.cells.specs.Cells.{cellAt, endsOf, wordsOf, numbersTo, neighboursTo, storing, loadable, loadCount, loadAnswer, loading};
 use answer::answer::Answer;
 use answer::answer::Refusal;
 use face::triangle::Counts;
@@ -53,7 +53,7 @@ fn put_words(neighbours: &mut [u32], at: usize, words: [u32; 6])
 // The k-th cell's numbers and neighbours, where flat lists have them.
 fn put_cell(c: Cell, k: usize, cells: &mut [f32], neighbours: &mut [u32])
     requires { ⌜ (27 * k + 27 ≤ length (now cells)) × (6 * k + 6 ≤ length (now neighbours)) ⌝ }
-    ensures { λ _. ⌜ (now (cells .exit) ≡ laid (now (cells .entry)) (27 * k) (numbersOf c)) × (now (neighbours .exit) ≡ laid (now (neighbours .entry)) (6 * k) (neighboursOf c)) ⌝ }
+    ensures { λ _. ⌜ storing c k cells neighbours ⌝ }
 {
     let at = 27 * k;
     cells[at] = c.height;
@@ -67,7 +67,7 @@ fn put_cell(c: Cell, k: usize, cells: &mut [f32], neighbours: &mut [u32])
 
 fn load_cell(records: &[Cell], k: usize, cells: &mut [f32], neighbours: &mut [u32])
     requires { ⌜ (k < length (now records)) × (27 * k + 27 ≤ length (now cells)) × (6 * k + 6 ≤ length (now neighbours)) ⌝ }
-    ensures { λ _. ⌜ (now (cells .exit) ≡ laid (now (cells .entry)) (27 * k) (numbersOf (cellAt (now (records .entry)) k))) × (now (neighbours .exit) ≡ laid (now (neighbours .entry)) (6 * k) (neighboursOf (cellAt (now (records .entry)) k))) ⌝ }
+    ensures { λ _. ⌜ storing (cellAt (now (records .entry)) k) k cells neighbours ⌝ }
 {
     put_cell(cell_at(records, k), k, cells, neighbours)
 }
@@ -119,7 +119,7 @@ fn load_answer(records: usize, cells: usize, neighbours: usize) -> Answer
 
 // The cells' numbers and neighbours from the start of each list on, or nothing.
 pub fn load(records: &[Cell], cells: &mut [f32], neighbours: &mut [u32]) -> Answer
-    ensures { λ r. ⌜ (r ≡ loadAnswer (length (now (records .entry))) (length (now (cells .entry))) (length (now (neighbours .entry)))) × (now (cells .exit) ≡ numbersLoaded (now (records .entry)) (now (cells .entry)) (now (neighbours .entry))) × (now (neighbours .exit) ≡ neighboursLoaded (now (records .entry)) (now (cells .entry)) (now (neighbours .entry))) ⌝ }
+    ensures { λ r. ⌜ loading (λ a. a) records cells neighbours r ⌝ }
 {
     let n = records.len();
     let l = cells.len();

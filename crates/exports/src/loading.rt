@@ -1,8 +1,6 @@
 // The cells of a height map, handed over as a list of records.
-ghost use mathlib.Core.Path.{_≡_};
-ghost use lib.ListN.{length};
 ghost use Rattle.boundary.specs.ToC.{answerToC};
-ghost use Rattle.cells.specs.Cells.{loadAnswer, numbersLoaded, neighboursLoaded};
+ghost use Rattle.cells.specs.Cells.{loading};
 use boundary::to_c::CAnswer;
 use cells::Cell;
 
@@ -14,7 +12,7 @@ pub extern "C" fn hosirekar_heightmap_load(
     cells: &mut [f32],
     neighbours: &mut [u32],
 ) -> CAnswer
-    ensures { λ r. ⌜ (r ≡ answerToC (loadAnswer (length (now (records .entry))) (length (now (cells .entry))) (length (now (neighbours .entry))))) × (now (cells .exit) ≡ numbersLoaded (now (records .entry)) (now (cells .entry)) (now (neighbours .entry))) × (now (neighbours .exit) ≡ neighboursLoaded (now (records .entry)) (now (cells .entry)) (now (neighbours .entry))) ⌝ }
+    ensures { λ r. ⌜ loading answerToC records cells neighbours r ⌝ }
 {
     boundary::to_c::answer_to_c(cells::load(records, cells, neighbours))
 }
