@@ -51,7 +51,7 @@ def answer(t):
     h = num(h); s = max(1, sub)
     V = 4*s*len(sides) + (12 if caps else 0)
     if V > 65536: return b'refused 4\n'
-    if V > 1024: return b'refused 5\n'
+    if V > 1024: return b'refused 51\n'
     verts, norms, uvs, idx = [], [], [], []
     delta = div(h, f(float(s)))
     for sd in sides:

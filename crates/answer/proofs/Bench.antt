@@ -8,11 +8,13 @@ use Rattle.face.specs.Triangles.{counts}
 use Rattle.face.specs.declared.vec.Vec2.{Vec2}
 use Rattle.face.specs.declared.vec.Vec3.{Vec3}
 use Rattle.face.specs.Vec.{v2, v3, f0}
+use Rattle.face.specs.declared.triangle.Counts.{Counts}
 use Rattle.answer.specs.declared.answer.Buffer.{Buffer}
+use Rattle.answer.specs.declared.answer.Buffer.the-variants.{Vertices, Normals, Uvs, Indices}
 use Rattle.answer.specs.declared.answer.Refusal.{Refusal}
 use Rattle.answer.specs.declared.answer.Refusal.the-variants.{Shape, Range, Neighbour, Limit, Room, NoFace, Index, Empty, Sheet}
 use Rattle.answer.specs.declared.answer.Answer.the-variants.{Done, Refused}
-use Rattle.answer.specs.Answers.{numberOf, countsOf, valueOf2, valueOf3, after, limited}
+use Rattle.answer.specs.Answers.{numberOf, countsOf, needOf, valueOf2, valueOf3, after, limited, roomFor}
 use Rattle.answer.specs.Checks.{inRange, namesOption, isNeighbour, cellCount}
 
 -- the number of a pattern is in range
@@ -33,9 +35,33 @@ pub nan-out-of-range : inRange nan ≡ false
 unfolding ofBits neg le
 nan-out-of-range = refl
 
--- each refusal's number, and 5 whichever buffer is short
-pub refusal-numbers : (b : Buffer) → map (λ e. numberOf (Refused e)) (Shape ∷ Range ∷ Neighbour ∷ Limit ∷ Room b ∷ NoFace ∷ Index ∷ Empty ∷ Sheet ∷ []) ≡ 1 ∷ 2 ∷ 3 ∷ 4 ∷ 5 ∷ 6 ∷ 7 ∷ 8 ∷ 9 ∷ []
-refusal-numbers b = refl
+-- each refusal's number, whatever a short buffer needs
+pub refusal-numbers : (n : ℕ) → map (λ e. numberOf (Refused e)) (Shape ∷ Range ∷ Neighbour ∷ Limit ∷ Room Vertices n ∷ Room Normals n ∷ Room Uvs n ∷ Room Indices n ∷ NoFace ∷ Index ∷ Empty ∷ Sheet ∷ []) ≡ 1 ∷ 2 ∷ 3 ∷ 4 ∷ 51 ∷ 52 ∷ 53 ∷ 54 ∷ 6 ∷ 7 ∷ 8 ∷ 9 ∷ []
+refusal-numbers n = refl
+
+-- a short buffer's need is told; every other answer has none
+pub refusal-needs : (b : Buffer) (n : ℕ) (c : Counts) → map needOf (Done c ∷ map Refused (Shape ∷ Range ∷ Neighbour ∷ Limit ∷ Room b n ∷ NoFace ∷ Index ∷ Empty ∷ Sheet ∷ [])) ≡ 0 ∷ 0 ∷ 0 ∷ 0 ∷ 0 ∷ n ∷ 0 ∷ 0 ∷ 0 ∷ 0 ∷ []
+refusal-needs b n c = refl
+
+-- 36 vertices and 60 indices: the first short buffer with the whole length that it needs, and none at the exact lengths
+pub short-vertices : (n t i : ℕ) → roomFor (counts 36 60) 107 n t i ≡ Refused (Room Vertices 108)
+short-vertices n t i = refl
+
+pub short-normals : (t i : ℕ) → roomFor (counts 36 60) 108 107 t i ≡ Refused (Room Normals 108)
+short-normals t i = refl
+
+pub short-uvs : (i : ℕ) → roomFor (counts 36 60) 108 108 71 i ≡ Refused (Room Uvs 72)
+short-uvs i = refl
+
+pub short-indices : roomFor (counts 36 60) 108 108 72 59 ≡ Refused (Room Indices 60)
+short-indices = refl
+
+pub exact-room : roomFor (counts 36 60) 108 108 72 60 ≡ Done (counts 36 60)
+exact-room = refl
+
+-- counts that no call has: a product above 64 bits is told as the greatest number of 64 bits
+pub greatest-need : roomFor (counts 6148914691236517206 0) 18446744073709551615 0 0 0 ≡ Refused (Room Vertices 18446744073709551615)
+greatest-need = refl
 
 -- whatever the refusal: both counts 0, other values +0, what is lent as it was
 pub refusal-counts : (e : Refusal) → countsOf (Refused e) ≡ counts 0 0

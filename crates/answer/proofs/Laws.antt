@@ -1,25 +1,25 @@
 -- What callers cite of tests over lists, of lengths and of answers. Assumes nothing.
-use mathlib.Core.Path.{_≡_, refl, sym, ap, _∙_}
-use mathlib.Core.Logic.{⊎-elim}
-use mathlib.Core.Bool.{Bool, true, false, _&&_}
+use mathlib.Core.Path.{_≡_, refl, sym, ap, subst, _∙_}
+use mathlib.Core.Logic.{_⊎_, ⊎-elim, inl, inr}
+use mathlib.Core.Bool.{Bool, true, false, not, _&&_, cond}
 use mathlib.Core.List.{List, [], _∷_}
 use Prim.Native.Nat.{ℕ, zero, suc, _+_, _*_, _/_, _%_, _≤_, _<_}
-use native.Mathlib.Nat.{le-div-iff-mul-le, div-lt-iff-lt-mul, div-add-mod', mul-comm, add-zero, div-eq-of-eq-mul-left, mul-mod-left}
+use native.Mathlib.Nat.{le-trans, mul-le-mul, le-div-iff-mul-le, div-lt-iff-lt-mul, div-add-mod', mul-comm, add-zero, div-eq-of-eq-mul-left, mul-mod-left}
 use native.Mathlib.Numerals.{add-one}
 use native.Mathlib.Omega.{arith}
 use borrow.Author.Tests.{le-leb, lt-leb, leb-true, leb-false, eq-eqb, ne-eqb, eqb-true, eqb-false, ltb-true}
-use lib.Dec.{leb, ltb, eqb}
+use lib.Dec.{T, leb, ltb, eqb, lit≤, ltb→lt, nltb→le}
 use lib.ListN.{length, getD, drop, drop-of-length-le}
 use lib.Seq.{drop-cons}
 use Rattle.face.specs.declared.triangle.Counts.{Counts}
 use Rattle.answer.specs.declared.answer.Refusal.{Refusal}
-use Rattle.answer.specs.declared.answer.Refusal.the-variants.{Limit, Room, NoFace}
+use Rattle.answer.specs.declared.answer.Refusal.the-variants.{Shape, Range, Neighbour, Limit, Room, NoFace, Index, Empty, Sheet}
 use Rattle.answer.specs.declared.answer.Buffer.{Buffer}
 use Rattle.answer.specs.declared.answer.Buffer.the-variants.{Vertices, Normals, Uvs, Indices}
 use Rattle.answer.specs.declared.answer.Answer.{Answer}
 use Rattle.answer.specs.declared.answer.Answer.the-variants.{Done, Refused}
 use Rattle.answer.specs.Checks.{every}
-use Rattle.answer.specs.Answers.{Roomy, Short, numberOf, after, given, limited, named, roomFor, roomed}
+use Rattle.answer.specs.Answers.{Roomy, Short, FirstShort, Lengthened, Past, roomCode, code, need, numberOf, needOf, after, given, limited, named, needFor, capped, told, held, lengths, roomFor, roomed}
 
 -- ---- a test of each element, read one by one: the first i passed, so the rest decide
 module _ {A : Type 0} (ok : A → Bool) (xs : List A) (z : A) where
@@ -121,38 +121,188 @@ named-done (Done d) c k n p =
     let h = given-done (ltb k n) NoFace (Done d) p in
     (h .1, ltb-true k n (h .0))
 
-five : (ok : Bool) (b : Buffer) (rest : Answer) → (ok ≡ true → numberOf rest ≡ 5) → numberOf (given ok (Room b) rest) ≡ 5
-five true b rest h = h refl
-five false b rest h = refl
+-- ---- an answer's number is at most a bound, test by test
+pub given-most : (m : ℕ) (ok : Bool) (e : Refusal) (rest : Answer) → code e ≤ m → numberOf rest ≤ m → numberOf (given ok e rest) ≤ m
+given-most m true e rest h k = k
+given-most m false e rest h k = h
+
+pub limited-most : (c : Counts) → numberOf (limited c) ≤ 4
+limited-most c = given-most 4 (leb (c .vertices .0) 65536) Limit (Done c) (lit≤ tt) (lit≤ tt)
+
+-- L1: one below 51 is no refusal for room, and has no need
+room-coded : (b : Buffer) → 51 ≤ roomCode b
+room-coded Vertices = lit≤ tt
+room-coded Normals = lit≤ tt
+room-coded Uvs = lit≤ tt
+room-coded Indices = lit≤ tt
+
+pub without-need : (a : Answer) → numberOf a < 51 → needOf a ≡ 0
+without-need (Done c) h = refl
+without-need (Refused e) h = go e h
+  where
+    go : (e : Refusal) → code e < 51 → need e ≡ 0
+    go Shape h = refl
+    go Range h = refl
+    go Neighbour h = refl
+    go Limit h = refl
+    go (Room b n) h = absurd (omega (arith, h, room-coded b))
+    go NoFace h = refl
+    go Index h = refl
+    go Empty h = refl
+    go Sheet h = refl
+
+-- ---- L1: each of the four tests, passed or not
+module _ (b : Buffer) (c : Counts) (l : ℕ) (rest : Answer) where
+  held-done : {d : Counts} → held b c l rest ≡ Done d → (needFor b c ≤ l) × (rest ≡ Done d)
+  held-done p = let h = given-done (leb (needFor b c) l) (Room b (told b c)) rest p in (leb-true _ _ (h .0), h .1)
+
+  held-enough : needFor b c ≤ l → held b c l rest ≡ rest
+  held-enough h = rw (le-leb (needFor b c) l h)
+
+  held-short : l < needFor b c → held b c l rest ≡ Refused (Room b (told b c))
+  held-short h = rw (lt-leb (needFor b c) l h)
+
+-- within the limit a need is told as it is
+capped-is : (k v : ℕ) → k ≤ 3 → v ≤ 65536 → capped (k * v) ≡ k * v
+capped-is k v h l = rw (le-leb (k * v) 18446744073709551615 (le-trans (mul-le-mul h l) (lit≤ tt)))
+
+pub told-is : (b : Buffer) (c : Counts) → c .vertices .0 ≤ 65536 → told b c ≡ needFor b c
+told-is Vertices c h = capped-is 3 _ (lit≤ tt) h
+told-is Normals c h = capped-is 3 _ (lit≤ tt) h
+told-is Uvs c h = capped-is 2 _ (lit≤ tt) h
+told-is Indices c h = refl
 
 module _ (c : Counts) (v n t i : ℕ) where
   pub room-for-done : (d : Counts) → roomFor c v n t i ≡ Done d → (c ≡ d) × Roomy c v n t i
   room-for-done d p =
-      let h = given-done (leb (3 * c .vertices .0) v) (Room Vertices) _ p in
-      let k = given-done (leb (3 * c .vertices .0) n) (Room Normals) _ (h .1) in
-      let l = given-done (leb (2 * c .vertices .0) t) (Room Uvs) _ (k .1) in
-      let m = given-done (leb (c .indices .0) i) (Room Indices) (Done c) (l .1) in (
-        same-counts (m .1),
-        record { vertices = leb-true _ _ (h .0); normals = leb-true _ _ (k .0); uvs = leb-true _ _ (l .0); indices = leb-true _ _ (m .0) },
-      )
+      let h = held-done Vertices c v _ p in
+      let k = held-done Normals c n _ (h .1) in
+      let l = held-done Uvs c t _ (k .1) in
+      let m = held-done Indices c i (Done c) (l .1) in
+      (same-counts (m .1), record { vertices = h .0; normals = k .0; uvs = l .0; indices = m .0 })
 
   pub room-enough : Roomy c v n t i → roomFor c v n t i ≡ Done c
   room-enough r =
-      rw (le-leb (3 * c .vertices .0) v (r .vertices))
-      (rw (le-leb (3 * c .vertices .0) n (r .normals))
-      (rw (le-leb (2 * c .vertices .0) t (r .uvs))
-      (rw (le-leb (c .indices .0) i (r .indices)))))
+      held-enough Vertices c v _ (r .vertices)
+      ∙ held-enough Normals c n _ (r .normals)
+      ∙ held-enough Uvs c t _ (r .uvs)
+      ∙ held-enough Indices c i (Done c) (r .indices)
 
-  -- whichever of the four is short, the answer is 5
-  pub room-short : Short c v n t i → numberOf (roomFor c v n t i) ≡ 5
-  room-short s =
-      five (leb (3 * c .vertices .0) v) Vertices _ (λ p. five (leb (3 * c .vertices .0) n) Normals _ (λ q.
-      five (leb (2 * c .vertices .0) t) Uvs _ (λ r. five (leb (c .indices .0) i) Indices (Done c) (λ o.
-      ⊎-elim (λ h. absurd (omega (arith, h, leb-true (3 * c .vertices .0) v p)))
-      (⊎-elim (λ h. absurd (omega (arith, h, leb-true (3 * c .vertices .0) n q)))
-      (⊎-elim (λ h. absurd (omega (arith, h, leb-true (2 * c .vertices .0) t r)))
-      (λ h. absurd (omega (arith, h, leb-true (c .indices .0) i o)))))
-      s))))
+-- ---- L1: the first short buffer is the refusal
+module _ (c : Counts) (l : Buffer → ℕ) where
+  abbrev roomed-by : Answer
+  roomed-by = roomFor c (l Vertices) (l Normals) (l Uvs) (l Indices)
+
+  first-told : (b : Buffer) → FirstShort c l b → roomed-by ≡ Refused (Room b (told b c))
+  first-told Vertices s = held-short Vertices c _ _ (s .short)
+  first-told Normals s = held-enough Vertices c _ _ (s .earlier Vertices (omega arith)) ∙ held-short Normals c _ _ (s .short)
+  first-told Uvs s =
+      held-enough Vertices c _ _ (s .earlier Vertices (omega arith))
+      ∙ held-enough Normals c _ _ (s .earlier Normals (omega arith))
+      ∙ held-short Uvs c _ _ (s .short)
+  first-told Indices s =
+      held-enough Vertices c _ _ (s .earlier Vertices (omega arith))
+      ∙ held-enough Normals c _ _ (s .earlier Normals (omega arith))
+      ∙ held-enough Uvs c _ _ (s .earlier Uvs (omega arith))
+      ∙ held-short Indices c _ _ (s .short)
+
+  pub first-short : (b : Buffer) → FirstShort c l b → c .vertices .0 ≤ 65536 → roomed-by ≡ Refused (Room b (needFor b c))
+  first-short b s h = first-told b s ∙ ap (λ (n : ℕ). Refused (Room b n)) (told-is b c h)
+
+-- each buffer has its own place in the order
+abbrev bufferAt : ℕ → Buffer
+bufferAt n = cond (eqb n 51) Vertices (cond (eqb n 52) Normals (cond (eqb n 53) Uvs Indices))
+
+at-code : (b : Buffer) → bufferAt (roomCode b) ≡ b
+at-code Vertices = refl
+at-code Normals = refl
+at-code Uvs = refl
+at-code Indices = refl
+
+same-buffer : (a b : Buffer) → roomCode a ≡ roomCode b → a ≡ b
+same-buffer a b e = sym (at-code a) ∙ ap bufferAt e ∙ at-code b
+
+pub same-or-not : (a b : Buffer) → (a ≡ b) ⊎ (a ≡ b → ⊥)
+same-or-not a b = go (eqb (roomCode a) (roomCode b)) refl
+  where
+    go : (x : Bool) → eqb (roomCode a) (roomCode b) ≡ x → (a ≡ b) ⊎ (a ≡ b → ⊥)
+    go true e = inl (same-buffer a b (eqb-true (roomCode a) (roomCode b) e))
+    go false e = inr (λ p. eqb-false (roomCode a) (roomCode b) e (ap (λ (x : Buffer). roomCode x) p))
+
+below-or-not : (x y : ℕ) → (x < y) ⊎ (y ≤ x)
+below-or-not x y = go (ltb x y) (ltb→lt x y) (nltb→le x y)
+  where
+    go : (b : Bool) → (T b → x < y) → (T (not b) → y ≤ x) → (x < y) ⊎ (y ≤ x)
+    go true h k = inl (h tt)
+    go false h k = inr (k tt)
+
+-- ---- L1: which is the first, and what becomes of it at its need
+module _ (c : Counts) (l : Buffer → ℕ) where
+  -- the buffers before a place hold the counts
+  abbrev UpTo : ℕ → Type 0
+  UpTo k = (a : Buffer) → roomCode a < k → needFor a c ≤ l a
+
+  up-more : (b : Buffer) → UpTo (roomCode b) → needFor b c ≤ l b → UpTo (roomCode b + 1)
+  up-more b u h a q =
+      ⊎-elim
+      (u a)
+      (λ k. subst (λ (x : Buffer). needFor x c ≤ l x) (same-buffer b a (omega (arith, q, k))) h)
+      (below-or-not (roomCode a) (roomCode b))
+
+  pub record First : Type 0 where
+    pub buffer : Buffer
+    pub first : FirstShort c l buffer
+
+  next : {A : Type 0} (b : Buffer) → UpTo (roomCode b) → (UpTo (roomCode b + 1) → A ⊎ First) → A ⊎ First
+  next b u k =
+      ⊎-elim
+      (λ h. inr record { buffer = b; first = record { short = h; earlier = u } })
+      (λ h. k (up-more b u h))
+      (below-or-not (l b) (needFor b c))
+
+  none-before : UpTo 51
+  none-before Vertices h = absurd (omega (arith, h))
+  none-before Normals h = absurd (omega (arith, h))
+  none-before Uvs h = absurd (omega (arith, h))
+  none-before Indices h = absurd (omega (arith, h))
+
+  -- all four hold the counts, or one is the first that does not
+  pub room-or-first : Roomy c (l Vertices) (l Normals) (l Uvs) (l Indices) ⊎ First
+  room-or-first =
+      next Vertices none-before (λ v. next Normals v (λ n. next Uvs n (λ t. next Indices t (λ u.
+      inl record { vertices = u Vertices (omega arith); normals = u Normals (omega arith); uvs = u Uvs (omega arith); indices = u Indices (omega arith) }))))
+
+-- at its need the first short buffer holds the counts, so the next refusal is for a later one
+module _ (c : Counts) (l m : Buffer → ℕ) (b : Buffer) (s : FirstShort c l b) (g : Lengthened b (needFor b c) l m) where
+  kept-earlier : UpTo c m (roomCode b)
+  kept-earlier a h = rw (g .others a (λ e. let k : roomCode a ≡ roomCode b = ap (λ (x : Buffer). roomCode x) e in absurd (omega (arith, h, k)))) (s .earlier a h)
+
+  moves-past : (d : Buffer) → FirstShort c m d → roomCode b < roomCode d
+  moves-past d f =
+      ⊎-elim
+      (λ h. h)
+      (λ h. absurd (omega (arith, f .short, up-more c m b kept-earlier (g .longer) d (omega (arith, h)))))
+      (below-or-not (roomCode b) (roomCode d))
+
+  pub past : c .vertices .0 ≤ 65536 → Past c (roomFor c (m Vertices) (m Normals) (m Uvs) (m Indices)) b
+  past h =
+      ⊎-elim
+      (λ r. inl (room-enough c _ _ _ _ r))
+      (λ f. inr record { buffer = f .buffer; later = moves-past (f .buffer) (f .first); refused = first-short c m (f .buffer) (f .first) h })
+      (room-or-first c m)
+
+-- whichever of the four is short, one of them is the first
+pub short-first : (c : Counts) (v n t i : ℕ) → Short c v n t i → First c (lengths v n t i)
+short-first c v n t i s =
+    ⊎-elim
+    (λ r.
+    ⊎-elim (λ h. absurd (omega (arith, h, r .vertices)))
+    (⊎-elim (λ h. absurd (omega (arith, h, r .normals)))
+    (⊎-elim (λ h. absurd (omega (arith, h, r .uvs)))
+    (λ h. absurd (omega (arith, h, r .indices)))))
+    s)
+    (λ f. f)
+    (room-or-first c (lengths v n t i))
 
 pub roomed-done : (a : Answer) (c : Counts) (v n t i : ℕ) → roomed a v n t i ≡ Done c → (a ≡ Done c) × Roomy c v n t i
 roomed-done (Refused e) c v n t i p = not-done p

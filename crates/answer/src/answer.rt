@@ -1,7 +1,8 @@
-// Answers and refusals. A refusal's number, its counts and its other values are what the
+// Answers and refusals. A refusal's number, its counts, its need and its other values are what the
 // definitions of specs/Answers.antt give for its case.
 ghost use mathlib.Core.Path.{_≡_};
-ghost use Rattle.answer.specs.Answers.{code, numberOf, countsOf, limited, named, roomFor, roomed};
+ghost use Prim.Native.Nat.{_*_, _<_};
+ghost use Rattle.answer.specs.Answers.{roomCode, code, need, numberOf, countsOf, needOf, limited, named, capped, roomFor, roomed};
 use face::triangle::Counts;
 use face::triangle::IndexPlace;
 use face::triangle::VertexNumber;
@@ -14,13 +15,14 @@ pub enum Buffer {
     Indices,
 }
 
-// Why a call is refused; of the buffers that are too short, the first.
+// Why a call is refused; of the buffers that are too short, the first, and how many numbers the whole
+// mesh needs in it.
 pub enum Refusal {
     Shape,
     Range,
     Neighbour,
     Limit,
-    Room(Buffer),
+    Room(Buffer, usize),
     NoFace,
     Index,
     Empty,
@@ -32,6 +34,17 @@ pub enum Answer {
     Refused(Refusal),
 }
 
+fn room_code(buffer: Buffer) -> u32
+    ensures { λ r. ⌜ r ≡ roomCode buffer ⌝ }
+{
+    match buffer {
+        Buffer::Vertices => 51,
+        Buffer::Normals => 52,
+        Buffer::Uvs => 53,
+        Buffer::Indices => 54,
+    }
+}
+
 fn refusal_code(why: Refusal) -> u32
     ensures { λ r. ⌜ r ≡ code why ⌝ }
 {
@@ -40,11 +53,27 @@ fn refusal_code(why: Refusal) -> u32
         Refusal::Range => 2,
         Refusal::Neighbour => 3,
         Refusal::Limit => 4,
-        Refusal::Room(_) => 5,
+        Refusal::Room(buffer, _) => room_code(buffer),
         Refusal::NoFace => 6,
         Refusal::Index => 7,
         Refusal::Empty => 8,
         Refusal::Sheet => 9,
+    }
+}
+
+fn refusal_need(why: Refusal) -> usize
+    ensures { λ r. ⌜ r ≡ need why ⌝ }
+{
+    match why {
+        Refusal::Shape => 0,
+        Refusal::Range => 0,
+        Refusal::Neighbour => 0,
+        Refusal::Limit => 0,
+        Refusal::Room(_, numbers) => numbers,
+        Refusal::NoFace => 0,
+        Refusal::Index => 0,
+        Refusal::Empty => 0,
+        Refusal::Sheet => 0,
     }
 }
 
@@ -67,6 +96,16 @@ pub fn counts_of(answer: Answer) -> Counts
             vertices: VertexNumber(0),
             indices: IndexPlace(0),
         },
+    }
+}
+
+// How many numbers the buffer needs that an answer names: 0 where it names none.
+pub fn need_of(answer: Answer) -> usize
+    ensures { λ r. ⌜ r ≡ needOf answer ⌝ }
+{
+    match answer {
+        Answer::Done(_) => 0,
+        Answer::Refused(why) => refusal_need(why),
     }
 }
 
@@ -105,22 +144,33 @@ pub fn room(answer: Answer, vertices: usize, normals: usize, uvs: usize, indices
     }
 }
 
-// No product is formed, so none wraps.
+// So many numbers for each of so many vertices. The greatest number of 64 bits stands for what is above it.
+fn need_for(each: usize, vertices: usize) -> usize
+    requires { ⌜ 0 < each ⌝ }
+    ensures { λ r. ⌜ r ≡ capped (each * vertices) ⌝ }
+{
+    if vertices > 18446744073709551615 / each {
+        return 18446744073709551615;
+    }
+    each * vertices
+}
+
+// A product is formed only where a buffer is short, and then none wraps.
 fn room_for(counts: Counts, vertices: usize, normals: usize, uvs: usize, indices: usize) -> Answer
     ensures { λ r. ⌜ r ≡ roomFor counts vertices normals uvs indices ⌝ }
 {
     let v = counts.vertices.0;
     if v > vertices / 3 {
-        return Answer::Refused(Refusal::Room(Buffer::Vertices));
+        return Answer::Refused(Refusal::Room(Buffer::Vertices, need_for(3, v)));
     }
     if v > normals / 3 {
-        return Answer::Refused(Refusal::Room(Buffer::Normals));
+        return Answer::Refused(Refusal::Room(Buffer::Normals, need_for(3, v)));
     }
     if v > uvs / 2 {
-        return Answer::Refused(Refusal::Room(Buffer::Uvs));
+        return Answer::Refused(Refusal::Room(Buffer::Uvs, need_for(2, v)));
     }
     if counts.indices.0 > indices {
-        return Answer::Refused(Refusal::Room(Buffer::Indices));
+        return Answer::Refused(Refusal::Room(Buffer::Indices, counts.indices.0));
     }
     Answer::Done(counts)
 }

@@ -1,13 +1,15 @@
 -- What a caller may conclude from the number that it is told. Assumes nothing.
 use mathlib.Core.Path.{_≡_, refl}
-use Prim.Native.Nat.{ℕ, _≤_}
+use Prim.Native.Nat.{ℕ, _≤_, _<_}
 use native.Mathlib.Omega.{arith}
 use Rattle.face.specs.Triangles.{counts}
+use Rattle.answer.specs.declared.answer.Buffer.the-variants.{Vertices, Normals, Uvs, Indices}
 use Rattle.answer.specs.declared.answer.Refusal.{Refusal}
 use Rattle.answer.specs.declared.answer.Refusal.the-variants.{Shape, Range, Neighbour, Limit, Room, NoFace, Index, Empty, Sheet}
 use Rattle.answer.specs.declared.answer.Answer.{Answer}
 use Rattle.answer.specs.declared.answer.Answer.the-variants.{Done, Refused}
 use Rattle.answer.specs.Answers.{code, after, valueOf}
+use Rattle.answer.proofs.Laws as laws
 use Rattle.boundary.specs.ToC.{answerToC}
 
 -- no refusal has the number of a call that is done
@@ -16,7 +18,10 @@ coded Shape = omega arith
 coded Range = omega arith
 coded Neighbour = omega arith
 coded Limit = omega arith
-coded (Room b) = omega arith
+coded (Room Vertices n) = omega arith
+coded (Room Normals n) = omega arith
+coded (Room Uvs n) = omega arith
+coded (Room Indices n) = omega arith
 coded NoFace = omega arith
 coded Index = omega arith
 coded Empty = omega arith
@@ -35,3 +40,7 @@ refused (Refused e) old new h = (refl, refl, refl)
 pub without-value : {A : Type 0} (zero x : A) (a : Answer) → 1 ≤ answerToC a .number → valueOf zero a x ≡ zero
 without-value zero x (Done c) h = absurd (let g : 1 ≤ 0 = h in omega arith)
 without-value zero x (Refused e) h = refl
+
+-- L1: a number below 51 is no refusal for room, and its need is 0
+pub without-need : (a : Answer) → answerToC a .number < 51 → answerToC a .need ≡ 0
+without-need = laws.without-need

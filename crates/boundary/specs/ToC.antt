@@ -1,8 +1,8 @@
--- Answers as a caller from C is told them; R10 is a row of docs/TRACE.md. Definitions only.
+-- Answers as a caller from C is told them; R10 and L1e are rows of docs/TRACE.md. Definitions only.
 use Rattle.face.specs.declared.vec.Vec2.{Vec2}
 use Rattle.face.specs.declared.vec.Vec3.{Vec3}
 use Rattle.answer.specs.declared.answer.Answer.{Answer}
-use Rattle.answer.specs.Answers.{numberOf, countsOf}
+use Rattle.answer.specs.Answers.{numberOf, countsOf, needOf}
 use Rattle.mesh.specs.declared.stored.CentroidAnswer.{CentroidAnswer}
 use Rattle.mesh.specs.declared.stored.UvCentroidAnswer.{UvCentroidAnswer}
 use Rattle.mesh.specs.declared.windows.Faces.{Faces}
@@ -15,9 +15,9 @@ use Rattle.boundary.specs.declared.to_c.CUvCentroid.{CUvCentroid}
 use Rattle.boundary.specs.declared.to_c.CFaces.{CFaces}
 use Rattle.boundary.specs.declared.to_c.CWindow.{CWindow}
 
--- the number and the counts; the spare number is 0
+-- the number, the counts and the need; the spare number is 0
 abbrev pub answerToC : Answer → CAnswer
-answerToC a = record { number = numberOf a; spare = 0; vertices = countsOf a .vertices .0; indices = countsOf a .indices .0 }
+answerToC a = record { number = numberOf a; spare = 0; vertices = countsOf a .vertices .0; indices = countsOf a .indices .0; need = needOf a }
 
 abbrev pub pointToC : Vec2 → CVec2
 pointToC p = record { x = p .x; y = p .y }

@@ -1,4 +1,5 @@
-// What a caller is told: a number, 0 or that of a refusal, and the counts. The spare number is 0.
+// What a caller is told: a number, 0 or that of a refusal, the counts, and the need of a buffer that is
+// short. The spare number is 0.
 ghost use mathlib.Core.Path.{_≡_};
 ghost use Rattle.boundary.specs.ToC.{answerToC, pointToC, point3ToC, centroidToC, uvCentroidToC, facesToC, windowToC};
 use crate::from_c::CVec2;
@@ -17,6 +18,7 @@ pub struct CAnswer {
     pub spare: u32,
     pub vertices: usize,
     pub indices: usize,
+    pub need: usize,
 }
 
 #[repr(C)]
@@ -55,6 +57,7 @@ pub fn answer_to_c(answer: Answer) -> CAnswer
         spare: 0,
         vertices: counts.vertices.0,
         indices: counts.indices.0,
+        need: answer::answer::need_of(answer),
     }
 }
 

@@ -2,18 +2,22 @@
 -- Assumes nothing.
 use mathlib.Core.Path.{_≡_, refl, sym, ap, ap₂, subst, _∙_}
 use mathlib.Core.Logic.{⊎-elim, inl, inr}
+use mathlib.Core.Bool.{Bool}
 use mathlib.Core.List.{List, [], _∷_, _++_}
 use Prim.Native.Nat.{ℕ, zero, suc, _+_, _*_, _<_, _≤_, min}
-use native.Mathlib.Nat.{min-le-left}
+use native.Mathlib.Nat.{le-trans, min-le-left}
 use native.Mathlib.Omega.{arith}
+use lib.Dec.{ltb, lit≤}
 use lib.ListN.{length, take, drop, length-take, take-append-drop}
 use Rattle.face.specs.declared.triangle.Counts.{Counts}
 use Rattle.answer.specs.declared.answer.Refusal.{Refusal}
-use Rattle.answer.specs.declared.answer.Refusal.the-variants.{NoFace}
+use Rattle.answer.specs.declared.answer.Refusal.the-variants.{Shape, Range, Neighbour, Empty, Room, NoFace}
+use Rattle.answer.specs.declared.answer.Buffer.{Buffer}
 use Rattle.answer.specs.declared.answer.Answer.{Answer}
 use Rattle.answer.specs.declared.answer.Answer.the-variants.{Done, Refused}
-use Rattle.answer.specs.Answers.{Short, numberOf, limited, after}
-use Rattle.answer.proofs.Laws.{done-limited, named-done, roomed-done, after-done, after-refused}
+use Rattle.answer.specs.Answers.{Short, FirstShort, Lengthened, Past, needFor, numberOf, needOf, given, limited, after}
+use Rattle.answer.specs.Checks.{exactly}
+use Rattle.answer.proofs.Laws.{given-most, limited-most, without-need, short-first, done-limited, named-done, roomed-done, after-done, after-refused}
 use Rattle.buffers.specs.Mesh.{Mesh, none, also, sizeOf, measure, startOf, joined}
 use Rattle.buffers.specs.Laying.{Buffers, layAll, layOne}
 use Rattle.buffers.specs.Steps.{Step, Lays, Refuses, Named}
@@ -24,7 +28,7 @@ use Rattle.buffers.proofs.Faces.{FewIndices}
 use Rattle.buffers.proofs.Joined.{few-indices, held-own, all-is-joined, all-inside, all-outside}
 use Rattle.mesh.specs.declared.windows.Faces.{Faces}
 use Rattle.mesh.specs.declared.windows.Window.{Window}
-use Rattle.mesh.specs.Jobs.{RoomIn, ShortIn, plannedOf, wholeOf, oneOf, builtOf, facedOf, facesBy, facesOf, windowBy, windowOf, calls}
+use Rattle.mesh.specs.Jobs.{RoomIn, ShortIn, lengthIn, RefusedRoom, plannedOf, wholeOf, oneOf, builtOf, facedOf, facesBy, facesOf, windowBy, windowOf, calls}
 use Rattle.mesh.specs.Stored as stored
 use Rattle.mesh.proofs.Jobs as jobs
 use Rattle.mesh.proofs.Places as places
@@ -143,12 +147,69 @@ face-is-done job c p k B r h = face-is job k B ∙ face-answer (checked job) (fa
 pub no-face-refused : (job : Job) (c : Counts) → planned job ≡ Done c → (k : ℕ) (B : Buffers) → length (faces job) ≤ k → faceAnswer job k B ≡ Refused NoFace
 no-face-refused job c p k B h = face-is job k B ∙ no-face-answer (checked job) (faces job) c (sym (planned-is job) ∙ p) k B h
 
--- ---- R5: an accepted plan and a short buffer, whichever of the four it is, give 5, of the build and of each planned face
-pub short-build : (job : Job) (c : Counts) → planned job ≡ Done c → (B : Buffers) → ShortIn c B → numberOf (wholeAnswer job B) ≡ 5
-short-build job c p B s = ap numberOf (whole-is job B) ∙ jobs.short-build (checked job) (faces job) c (sym (planned-is job) ∙ p) B s
+-- ---- L1: an accepted plan and buffers that are too short for it: the build and each planned face are refused for the first
+-- such buffer, with what the whole plan needs in it
+module _ (job : Job) (c : Counts) (p : planned job ≡ Done c) (B : Buffers) where
+  module _ (b : Buffer) (s : FirstShort c (lengthIn B) b) where
+    pub first-build : wholeAnswer job B ≡ Refused (Room b (needFor b c))
+    first-build = whole-is job B ∙ jobs.first-build (checked job) (faces job) c (sym (planned-is job) ∙ p) (at-most job c p .0) b B s
 
-pub short-face : (job : Job) (c : Counts) → planned job ≡ Done c → (k : ℕ) (B : Buffers) → ShortIn c B → k < length (faces job) → numberOf (faceAnswer job k B) ≡ 5
-short-face job c p k B s h = ap numberOf (face-is job k B) ∙ jobs.short-face (checked job) (faces job) c (sym (planned-is job) ∙ p) k B s h
+    pub first-face : (k : ℕ) → k < length (faces job) → faceAnswer job k B ≡ Refused (Room b (needFor b c))
+    first-face k h = face-is job k B ∙ jobs.first-face (checked job) (faces job) c (sym (planned-is job) ∙ p) (at-most job c p .0) b B s k h
+
+    -- with that one buffer at its need they are done, or refused for a later one
+    module _ (C : Buffers) (g : Lengthened b (needFor b c) (lengthIn B) (lengthIn C)) where
+      pub past-build : Past c (wholeAnswer job C) b
+      past-build = rw (whole-is job C) (jobs.past-build (checked job) (faces job) c (sym (planned-is job) ∙ p) (at-most job c p .0) b B s C g)
+
+      pub past-face : (k : ℕ) → k < length (faces job) → Past c (faceAnswer job k C) b
+      past-face k h = rw (face-is job k C) (jobs.past-face (checked job) (faces job) c (sym (planned-is job) ∙ p) (at-most job c p .0) b B s C g k h)
+
+  -- whichever of the four is short
+  pub short-build : ShortIn c B → RefusedRoom c B (wholeAnswer job B)
+  short-build s =
+      let f = short-first c _ _ _ _ s in
+      record { buffer = f .buffer; first = f .first; refused = first-build (f .buffer) (f .first) }
+
+  pub short-face : ShortIn c B → (k : ℕ) → k < length (faces job) → RefusedRoom c B (faceAnswer job k B)
+  short-face s k h =
+      let f = short-first c _ _ _ _ s in
+      record { buffer = f .buffer; first = f .first; refused = first-face (f .buffer) (f .first) k h }
+
+-- ---- L1: a plan's number is at most 4 and a stored mesh's at most 8, so neither is refused for room or has a need
+tested-most : (p q : Bool) (a : Answer) → numberOf a ≤ 4 → numberOf (given p Shape (given q Range a)) ≤ 4
+tested-most p q a h = given-most 4 p Shape (given q Range a) (lit≤ tt) (given-most 4 q Range a (lit≤ tt) h)
+
+plan-most : (job : Job) → numberOf (planned job) ≤ 4
+plan-most (OfCheapColumn job l) =
+    let c = measure (faces (OfCheapColumn job l)) in
+    tested-most (exactly (length l) 6 2) (cheap.rangeOf job l) (limited c) (limited-most c)
+plan-most (OfPlane job ls) =
+    let c = measure (faces (OfPlane job ls)) in
+    tested-most (plane.shapeOf job ls) (plane.rangeOf job ls) (limited c) (limited-most c)
+plan-most (OfColumn job ls) =
+    let c = measure (faces (OfColumn job ls)) in
+    tested-most (column.shapeOf job ls) (column.rangeOf job ls) (limited c) (limited-most c)
+plan-most (OfMap job ls) =
+    let c = measure (faces (OfMap job ls)) in
+    let linked = mapTests.linkedOf (ls .grid) in
+    tested-most (mapTests.shapeOf job ls) (mapTests.rangeOf job ls) (given linked Neighbour (limited c)) (given-most 4 linked Neighbour (limited c) (lit≤ tt) (limited-most c))
+
+pub plan-without-need : (job : Job) → (numberOf (planned job) ≤ 4) × (needOf (planned job) ≡ 0)
+plan-without-need job = (plan-most job, without-need (planned job) (omega (arith, plan-most job)))
+
+stored-most : (c : Counts) (good : Bool) (B : Buffers) → numberOf (stored.answerOf c good B) ≤ 4
+stored-most c good B = tested-most (stored.holdsCounts c (length (B .vertices)) (length (B .normals)) (length (B .uvs)) (length (B .indices))) good (limited c) (limited-most c)
+
+not-empty-most : (a : Answer) → numberOf a ≤ 4 → numberOf (stored.notEmpty a) ≤ 8
+not-empty-most (Refused e) h = le-trans h (lit≤ tt)
+not-empty-most (Done c) h = given-most 8 (ltb 0 (c .vertices .0)) Empty (Done c) (lit≤ tt) (lit≤ tt)
+
+pub stored-without-need : (c : Counts) (good : Bool) (B : Buffers) → (needOf (stored.answerOf c good B) ≡ 0) × (needOf (stored.notEmpty (stored.answerOf c good B)) ≡ 0)
+stored-without-need c good B =
+    let a = stored.answerOf c good B in
+    let h = stored-most c good B in
+    (without-need a (omega (arith, h)), without-need (stored.notEmpty a) (omega (arith, not-empty-most a h)))
 
 -- ---- X4: plan and whole build give the same refusal, or the same counts, whenever the planned room is there
 pub plan-and-build-agree : (job : Job) (B : Buffers) → ((c : Counts) → planned job ≡ Done c → RoomIn c B) → wholeAnswer job B ≡ planned job
@@ -332,16 +393,16 @@ refused-first n c B e h =
 take-few : {A : Type 0} (n m : ℕ) (l : List A) → n < m → length (take n l) < m
 take-few n m l h = let e : length (take n l) ≤ n = rw (length-take n l) (min-le-left n (length l)) in omega (arith, e, h)
 
-first-short : (n : Lengths) (c : Counts) (B : Buffers) → Short c (n .vertices) (n .normals) (n .uvs) (n .indices) → ShortIn c (first n B)
-first-short n c B =
+first-few : (n : Lengths) (c : Counts) (B : Buffers) → Short c (n .vertices) (n .normals) (n .uvs) (n .indices) → ShortIn c (first n B)
+first-few n c B =
     ⊎-elim (λ h. inl (take-few _ _ (B .vertices) h))
     (⊎-elim (λ h. inr (inl (take-few _ _ (B .normals) h)))
     (⊎-elim (λ h. inr (inr (inl (take-few _ _ (B .uvs) h))))
     (λ h. inr (inr (inr (take-few _ _ (B .indices) h))))))
 
 pub own-short : (job : Job) (c : Counts) → planned job ≡ Done c → (n : Lengths) → Short c (n .vertices) (n .normals) (n .uvs) (n .indices) → (B : Buffers)
-    → (numberOf (answerOf (Build job) (first n B)) ≡ 5) × ((k : ℕ) → k < length (faces job) → numberOf (answerOf (Face job k) (first n B)) ≡ 5)
-own-short job c p n s B = (short-build job c p (first n B) (first-short n c B s), λ k h. short-face job c p k (first n B) (first-short n c B s) h)
+    → RefusedRoom c (first n B) (answerOf (Build job) (first n B)) × ((k : ℕ) → k < length (faces job) → RefusedRoom c (first n B) (answerOf (Face job k) (first n B)))
+own-short job c p n s B = (short-build job c p (first n B) (first-few n c B s), λ k h. short-face job c p (first n B) (first-few n c B s) k h)
 
 -- ---- X5: calls of a job that name each planned face at least once, in any order, with repeats, with numbers of
 -- no face, and with refused calls between, of any job, of merges and of stored meshes, lent the buffers or the first

@@ -21,7 +21,7 @@ one-too-many = refl
 pub many-indices : mergeTested (counts 1 1) 3 3 2 (0 ∷ []) (counts 1 9000000000) 6 6 4 9000000001 ≡ Done (counts 2 9000000001)
 many-indices = refl
 
--- ---- R13: 1 before 7, 7 before 4, 4 before 5; a target shorter than its own counts is 1
+-- ---- R13: 1 before 7, 7 before 4, 4 before 51 to 54; a target shorter than its own counts is 1
 pub shape-before-index : mergeTested (counts 1 1) 2 3 2 (1 ∷ []) (counts 65536 0) 196608 196608 131072 0 ≡ Refused Shape
 shape-before-index = refl
 
@@ -34,15 +34,19 @@ index-before-limit = refl
 pub limit-before-room : mergeTested (counts 1 1) 3 3 2 (0 ∷ []) (counts 65536 0) 196608 196608 131072 0 ≡ Refused Limit
 limit-before-room = refl
 
--- R5: the first short buffer
-pub short-vertices : mergeTested (counts 1 1) 3 3 2 (0 ∷ []) (counts 1 1) 5 5 3 1 ≡ Refused (Room Vertices)
+-- L1: the first short buffer, with the numbers that both meshes need in it
+pub short-vertices : mergeTested (counts 1 1) 3 3 2 (0 ∷ []) (counts 1 1) 5 5 3 1 ≡ Refused (Room Vertices 6)
 short-vertices = refl
 
-pub short-normals : mergeTested (counts 1 1) 3 3 2 (0 ∷ []) (counts 1 1) 6 5 3 1 ≡ Refused (Room Normals)
+pub short-normals : mergeTested (counts 1 1) 3 3 2 (0 ∷ []) (counts 1 1) 6 5 3 1 ≡ Refused (Room Normals 6)
 short-normals = refl
 
-pub short-uvs : mergeTested (counts 1 1) 3 3 2 (0 ∷ []) (counts 1 1) 6 6 3 1 ≡ Refused (Room Uvs)
+pub short-uvs : mergeTested (counts 1 1) 3 3 2 (0 ∷ []) (counts 1 1) 6 6 3 1 ≡ Refused (Room Uvs 4)
 short-uvs = refl
 
-pub short-indices : mergeTested (counts 1 1) 3 3 2 (0 ∷ []) (counts 1 1) 6 6 4 1 ≡ Refused (Room Indices)
+pub short-indices : mergeTested (counts 1 1) 3 3 2 (0 ∷ []) (counts 1 1) 6 6 4 1 ≡ Refused (Room Indices 2)
 short-indices = refl
+
+-- a need above 32 bits
+pub great-need : mergeTested (counts 1 1) 3 3 2 (0 ∷ []) (counts 1 9000000000) 6 6 4 9000000000 ≡ Refused (Room Indices 9000000001)
+great-need = refl

@@ -2,3 +2,4 @@
 pub mod Merging
 pub mod Bench
 mod Copying
+pub mod Short

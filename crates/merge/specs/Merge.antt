@@ -1,6 +1,7 @@
--- One mesh merged into another; M4 and R13 are rows of docs/TRACE.md. Definitions only.
-use Prim.Native.Nat.{ℕ, _+_, _*_}
-use mathlib.Core.Bool.{Bool, _&&_}
+-- One mesh merged into another; M4, R13, L1a and L1b are rows of docs/TRACE.md. Definitions only.
+use mathlib.Core.Path.{_≡_}
+use Prim.Native.Nat.{ℕ, _+_, _*_, _≤_}
+use mathlib.Core.Bool.{Bool, true, _&&_}
 use mathlib.Core.List.{List, map}
 use lib.ListN.{length, take}
 use lib.Dec.{ltb}
@@ -17,7 +18,7 @@ use Rattle.mesh.specs.Stored.{holdsCounts}
 abbrev pub below : ℕ → ℕ → Bool
 below m x = ltb x m
 
--- R13: 1, 7, 4, 5, from the lengths of the lists and the source's indices
+-- R13: 1, 7, 4, then 51 to 54, from the lengths of the lists and the source's indices
 abbrev pub mergeTested : Counts → ℕ → ℕ → ℕ → List ℕ → Counts → ℕ → ℕ → ℕ → ℕ → Answer
 mergeTested s sv sn st si t v n u i =
     given (holdsCounts s sv sn st (length si) && holdsCounts t v n u i) Shape
@@ -27,6 +28,13 @@ mergeTested s sv sn st si t v n u i =
 abbrev pub mergeAnswer : Counts → Buffers → Counts → Buffers → Answer
 mergeAnswer s S t T =
     mergeTested s (length (S .vertices)) (length (S .normals)) (length (S .uvs)) (S .indices) t (length (T .vertices)) (length (T .normals)) (length (T .uvs)) (length (T .indices))
+
+-- R13: what a merge needs to pass 1, 7 and 4
+pub record Mergeable (s : Counts) (S : Buffers) (t : Counts) (T : Buffers) : Type 0 where
+  pub source : holdsCounts s (length (S .vertices)) (length (S .normals)) (length (S .uvs)) (length (S .indices)) ≡ true
+  pub target : holdsCounts t (length (T .vertices)) (length (T .normals)) (length (T .uvs)) (length (T .indices)) ≡ true
+  pub own : every (below (s .vertices .0)) (take (s .indices .0) (S .indices)) ≡ true
+  pub limit : also t s .vertices .0 ≤ 65536
 
 -- M4: what the counts say of the source, after what they say of the target; indices after its vertices
 abbrev pub appended : Counts → Buffers → Counts → Buffers → Buffers

@@ -8,11 +8,12 @@ use lib.Dec.{T, ltb, ltb→lt, nltb→le}
 use lib.ListN.{length}
 use Rattle.face.specs.declared.triangle.Counts.{Counts}
 use Rattle.answer.specs.declared.answer.Refusal.{Refusal}
-use Rattle.answer.specs.declared.answer.Refusal.the-variants.{NoFace}
+use Rattle.answer.specs.declared.answer.Refusal.the-variants.{NoFace, Room}
+use Rattle.answer.specs.declared.answer.Buffer.{Buffer}
 use Rattle.answer.specs.declared.answer.Answer.{Answer}
 use Rattle.answer.specs.declared.answer.Answer.the-variants.{Done, Refused}
-use Rattle.answer.specs.Answers.{given, limited, named, roomed, roomFor, after, numberOf}
-use Rattle.answer.proofs.Laws.{done-limited, named-done, roomed-done, room-enough, room-short, after-done, after-refused}
+use Rattle.answer.specs.Answers.{given, limited, named, roomed, roomFor, after, needFor, FirstShort, Lengthened, Past}
+use Rattle.answer.proofs.Laws.{done-limited, named-done, roomed-done, room-enough, first-short, past, after-done, after-refused}
 use Rattle.buffers.specs.Mesh.{Mesh, none, measure, startOf}
 use Rattle.buffers.specs.Laying.{Buffers, fits, reaches, layAll, layOne}
 use Rattle.buffers.specs.Steps.{Step, Lays, Refuses, stepped, run, Named}
@@ -20,7 +21,7 @@ use Rattle.buffers.specs.Windows.{AlikeOutside, SameLengths}
 use Rattle.buffers.proofs.Order.{any-order, one-lengths, lengths-same, lengths-then}
 use Rattle.buffers.proofs.Rooms.{room-so}
 use Rattle.buffers.proofs.Windows.{none-also, one-outside, one-past-end}
-use Rattle.mesh.specs.Jobs.{RoomIn, ShortIn, plannedOf, roomedIn, wholeOf, oneOf, builtOf, facedOf, called, calls}
+use Rattle.mesh.specs.Jobs.{RoomIn, lengthIn, plannedOf, roomedIn, wholeOf, oneOf, builtOf, facedOf, called, calls}
 
 -- ---- X4: with the planned room, the whole build answers what the plan does
 pub plan-and-build : (checked : Answer → Answer) (fs : List Mesh) (B : Buffers) → ((c : Counts) → plannedOf checked fs ≡ Done c → RoomIn c B) → wholeOf checked fs B ≡ plannedOf checked fs
@@ -39,27 +40,39 @@ module _ (checked : Answer → Answer) (fs : List Mesh) (c : Counts) (p : planne
   room-kept : (B C : Buffers) → SameLengths B C → RoomIn c B → RoomIn c C
   room-kept B C s r = record { vertices = rw (s .vertices) (r .vertices); normals = rw (s .normals) (r .normals); uvs = rw (s .uvs) (r .uvs); indices = rw (s .indices) (r .indices) }
 
-  -- a planned face is never refused, and any other number is refused as 6
-  pub face-answer : (k : ℕ) (B : Buffers) → RoomIn c B → k < length fs → oneOf checked fs k B ≡ Done c
-  face-answer k B r h =
+  -- of an accepted plan, and of its faces, the room alone is left to test
+  whole-roomed : (B : Buffers) → wholeOf checked fs B ≡ roomedIn B (Done c)
+  whole-roomed B = ap (roomedIn B) p
+
+  one-roomed : (k : ℕ) (B : Buffers) → k < length fs → oneOf checked fs k B ≡ roomedIn B (Done c)
+  one-roomed k B h =
       ap (λ (a : Answer). roomedIn B (named a k (length fs))) p
       ∙ ap (λ (x : Bool). roomedIn B (given x NoFace (Done c))) (lt-ltb k (length fs) h)
-      ∙ room-enough c _ _ _ _ r
+
+  -- a planned face is never refused, and any other number is refused as 6
+  pub face-answer : (k : ℕ) (B : Buffers) → RoomIn c B → k < length fs → oneOf checked fs k B ≡ Done c
+  face-answer k B r h = one-roomed k B h ∙ room-enough c _ _ _ _ r
 
   pub no-face-answer : (k : ℕ) (B : Buffers) → length fs ≤ k → oneOf checked fs k B ≡ Refused NoFace
   no-face-answer k B h =
       ap (λ (a : Answer). roomedIn B (named a k (length fs))) p
       ∙ ap (λ (x : Bool). roomedIn B (given x NoFace (Done c))) (le-ltb k (length fs) h)
 
-  -- R5: where a buffer is too short for the whole plan, the build and each planned face are refused as 5
-  pub short-build : (B : Buffers) → ShortIn c B → numberOf (wholeOf checked fs B) ≡ 5
-  short-build B s = ap (λ (a : Answer). numberOf (roomedIn B a)) p ∙ room-short c _ _ _ _ s
+  -- L1: where a buffer is too short for the whole plan, the first such one is the refusal, with its need; with that one
+  -- at its need the call is done, or refused for a later one
+  module _ (small : c .vertices .0 ≤ 65536) (b : Buffer) (B : Buffers) (s : FirstShort c (lengthIn B) b) where
+    pub first-build : wholeOf checked fs B ≡ Refused (Room b (needFor b c))
+    first-build = whole-roomed B ∙ first-short c (lengthIn B) b s small
 
-  pub short-face : (k : ℕ) (B : Buffers) → ShortIn c B → k < length fs → numberOf (oneOf checked fs k B) ≡ 5
-  short-face k B s h =
-      ap (λ (a : Answer). numberOf (roomedIn B (named a k (length fs)))) p
-      ∙ ap (λ (x : Bool). numberOf (roomedIn B (given x NoFace (Done c)))) (lt-ltb k (length fs) h)
-      ∙ room-short c _ _ _ _ s
+    pub first-face : (k : ℕ) → k < length fs → oneOf checked fs k B ≡ Refused (Room b (needFor b c))
+    first-face k h = one-roomed k B h ∙ first-short c (lengthIn B) b s small
+
+    module _ (C : Buffers) (g : Lengthened b (needFor b c) (lengthIn B) (lengthIn C)) where
+      pub past-build : Past c (wholeOf checked fs C) b
+      past-build = rw (whole-roomed C) (past c (lengthIn B) (lengthIn C) b s g small)
+
+      pub past-face : (k : ℕ) → k < length fs → Past c (oneOf checked fs k C) b
+      past-face k h = rw (one-roomed k C h) (past c (lengthIn B) (lengthIn C) b s g small)
 
   call-is-step : (k : ℕ) (B : Buffers) → RoomIn c B → facedOf checked fs k B ≡ layOne fs k none B
   call-is-step k B r = go (ltb k (length fs)) (ltb→lt k (length fs)) (nltb→le k (length fs))

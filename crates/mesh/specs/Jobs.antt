@@ -1,11 +1,15 @@
 -- A job of any kind: its tests before the limit, and its faces. What the three calls answer and leave, and what is told
--- of its faces without a buffer, is said here once for every kind; R10 to R18 are rows of docs/TRACE.md. Definitions only.
+-- of its faces without a buffer, is said here once for every kind; R10 to R18 and L1a to L1c are rows of docs/TRACE.md. Definitions only.
+use mathlib.Core.Path.{_≡_}
 use Prim.Native.Nat.{ℕ}
 use mathlib.Core.List.{List, [], _∷_}
 use lib.ListN.{length}
 use Rattle.face.specs.declared.triangle.Counts.{Counts}
+use Rattle.answer.specs.declared.answer.Buffer.{Buffer}
+use Rattle.answer.specs.declared.answer.Refusal.the-variants.{Room}
 use Rattle.answer.specs.declared.answer.Answer.{Answer}
-use Rattle.answer.specs.Answers.{limited, named, roomed, after, valueOf, Roomy, Short}
+use Rattle.answer.specs.declared.answer.Answer.the-variants.{Refused}
+use Rattle.answer.specs.Answers.{limited, named, roomed, after, valueOf, lengths, needFor, Roomy, Short, FirstShort}
 use Rattle.buffers.specs.Mesh.{Mesh, none, sizeOf, measure, startOf}
 use Rattle.buffers.specs.Laying.{Buffers, layAll, layOne}
 use Rattle.buffers.specs.Steps.{Step, Lays, Refuses}
@@ -27,11 +31,21 @@ ShortIn c B = Short c (length (B .vertices)) (length (B .normals)) (length (B .u
 abbrev pub roomedIn : Buffers → Answer → Answer
 roomedIn B a = roomed a (length (B .vertices)) (length (B .normals)) (length (B .uvs)) (length (B .indices))
 
--- R11: .. then 5
+-- L1: the length of each buffer
+abbrev pub lengthIn : Buffers → Buffer → ℕ
+lengthIn B = lengths (length (B .vertices)) (length (B .normals)) (length (B .uvs)) (length (B .indices))
+
+-- L1: a refusal for the first buffer that is too short, with its need
+pub record RefusedRoom (c : Counts) (B : Buffers) (a : Answer) : Type 0 where
+  pub buffer : Buffer
+  pub first : FirstShort c (lengthIn B) buffer
+  pub refused : a ≡ Refused (Room buffer (needFor buffer c))
+
+-- R11: .. then 51 to 54
 abbrev pub wholeOf : (Answer → Answer) → List Mesh → Buffers → Answer
 wholeOf checked fs B = roomedIn B (plannedOf checked fs)
 
--- R12: .. then 6, then 5, for the room of the whole plan
+-- R12: .. then 6, then 51 to 54, for the room of the whole plan
 abbrev pub oneOf : (Answer → Answer) → List Mesh → ℕ → Buffers → Answer
 oneOf checked fs k B = roomedIn B (named (plannedOf checked fs) k (length fs))
 

@@ -191,6 +191,9 @@ answer-answer-number-of κs a x y v w p q = (determined p q, refl)
 pub answer-answer-counts-of : Fixes answer.answer.counts_of.ended answer.answer.counts_of.Reads.Learnt
 answer-answer-counts-of κs a x y v w p q = (determined p q, refl)
 
+pub answer-answer-need-of : Fixes answer.answer.need_of.ended answer.answer.need_of.Reads.Learnt
+answer-answer-need-of κs a x y v w p q = (determined p q, refl)
+
 pub answer-answer-limit : Fixes answer.answer.limit.ended answer.answer.limit.Reads.Learnt
 answer-answer-limit κs a x y v w p q = (determined p q, refl)
 

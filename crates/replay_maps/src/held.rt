@@ -124,11 +124,12 @@ pub(crate) fn is_read(d: Digest) -> bool {
     lane(d.a) == a && lane(d.b) == b
 }
 
-// Reads a number and two counts, and answers whether they are those of an answer.
+// Reads a number, two counts and a need, and answers whether they are those of an answer.
 pub(crate) fn is_answer(answer: Answer) -> bool {
     let number = words::word();
     let vertices = words::word() as usize;
     let indices = words::word() as usize;
+    let need = words::word() as usize;
     let counts = answer::answer::counts_of(answer);
     if answer::answer::number_of(answer) != number {
         return false;
@@ -136,5 +137,8 @@ pub(crate) fn is_answer(answer: Answer) -> bool {
     if counts.vertices.0 != vertices {
         return false;
     }
-    counts.indices.0 == indices
+    if counts.indices.0 != indices {
+        return false;
+    }
+    answer::answer::need_of(answer) == need
 }

@@ -94,7 +94,7 @@ unfolding meshText floatLines indexLines digits digitCount divisions
 no-faces = refl
 
 -- P8
-pub refusals : map refusalText (1 ∷ 9 ∷ []) ≡ bytes "refused 1\n" ∷ bytes "refused 9\n" ∷ []
+pub refusals : map refusalText (1 ∷ 9 ∷ 51 ∷ []) ≡ bytes "refused 1\n" ∷ bytes "refused 9\n" ∷ bytes "refused 51\n" ∷ []
 unfolding refusalText digits digitCount divisions
 refusals = refl
 

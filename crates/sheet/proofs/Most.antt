@@ -13,12 +13,12 @@ use Rattle.face.specs.declared.triangle.Triangle.{Triangle}
 use Rattle.face.specs.declared.triangle.Counts.{Counts}
 use Rattle.face.specs.Triangles.{noTriangle}
 use Rattle.face.proofs.Laws.{Below}
-use Rattle.answer.specs.declared.answer.Buffer.the-variants.{Vertices}
+use Rattle.answer.specs.declared.answer.Buffer.the-variants.{Vertices, Normals, Uvs, Indices}
 use Rattle.answer.specs.declared.answer.Refusal.{Refusal}
 use Rattle.answer.specs.declared.answer.Refusal.the-variants.{Shape, Range, Neighbour, Limit, Room, NoFace, Index, Empty, Sheet}
 use Rattle.answer.specs.declared.answer.Answer.{Answer}
 use Rattle.answer.specs.declared.answer.Answer.the-variants.{Done, Refused}
-use Rattle.answer.specs.Answers.{code, given}
+use Rattle.answer.specs.Answers.{code, told, given}
 use Rattle.placement.specs.declared.options.Choice.{Choice}
 use Rattle.placement.specs.declared.options.Choice.the-variants as option
 use Rattle.placement.specs.Options.{plainOptions, entryAt, optionAt}
@@ -35,7 +35,7 @@ use Rattle.column_builder.proofs.Whole.{column-own}
 use Rattle.sheet.specs.Readers.{reading}
 use Rattle.sheet.specs.Meshes.{meshText, refusalText, Written}
 use Rattle.sheet.specs.Answering.{columnOf, listsOf, printable, flat, textOf, textFor, columnText, answerText, Answered, room}
-use Rattle.sheet.proofs.Numerals.{count-small, count-within}
+use Rattle.sheet.proofs.Numerals.{count-within}
 use Rattle.sheet.proofs.Rooms.{length-mesh, length-refusal}
 use Rattle.sheet.proofs.Laws.{index-lines-most}
 use Rattle.sheet.proofs.Printing.{planned-counts}
@@ -101,20 +101,23 @@ module _ (job : Column) (ps cs : List Float) where
         count-within 3 (c .indices .0) (omega (arith, h, few)),
       ))
 
--- ---- a refusal has one digit
-one-digit : (e : Refusal) → code e < 10
-one-digit Shape = omega arith
-one-digit Range = omega arith
-one-digit Neighbour = omega arith
-one-digit Limit = omega arith
-one-digit (Room b) = omega arith
-one-digit NoFace = omega arith
-one-digit Index = omega arith
-one-digit Empty = omega arith
-one-digit Sheet = omega arith
+-- ---- a refusal has at most two digits
+two-digits : (e : Refusal) → code e < 100
+two-digits Shape = omega arith
+two-digits Range = omega arith
+two-digits Neighbour = omega arith
+two-digits Limit = omega arith
+two-digits (Room Vertices n) = omega arith
+two-digits (Room Normals n) = omega arith
+two-digits (Room Uvs n) = omega arith
+two-digits (Room Indices n) = omega arith
+two-digits NoFace = omega arith
+two-digits Index = omega arith
+two-digits Empty = omega arith
+two-digits Sheet = omega arith
 
 refusal-fits : (e : Refusal) → length (refusalText (code e)) ≤ room
-refusal-fits e = omega (arith, length-refusal (code e), count-small (code e) (one-digit e))
+refusal-fits e = omega (arith, length-refusal (code e), count-within 1 (code e) (omega (arith, two-digits e)))
 
 -- ---- either
 column-most : (job : Column) (ps cs : List Float) → length (columnText job (lists ps cs [] [])) ≤ room
@@ -124,9 +127,9 @@ column-most job ps cs = go (planned job (ls job ps cs)) refl
     m : Mesh
     m = joined (fs job ps cs)
 
-    done : (c : Counts) (x : Bool) → planned job (ls job ps cs) ≡ Done c → leb (c .vertices .0) 1024 ≡ x → length (textFor (given x (Room Vertices) (Done c)) m) ≤ room
+    done : (c : Counts) (x : Bool) → planned job (ls job ps cs) ≡ Done c → leb (c .vertices .0) 1024 ≡ x → length (textFor (given x (Room Vertices (told Vertices c)) (Done c)) m) ≤ room
     done c true p e = text-most job ps cs (rw (planned-counts job (ls job ps cs) c p) (leb-true _ _ e))
-    done c false p e = refusal-fits (Room Vertices)
+    done c false p e = refusal-fits (Room Vertices (told Vertices c))
 
     go : (a : Answer) → planned job (ls job ps cs) ≡ a → length (textFor (printable a) m) ≤ room
     go (Refused e) p = refusal-fits e

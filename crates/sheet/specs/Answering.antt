@@ -1,4 +1,4 @@
--- The text that a sheet is answered with; P1 to P9 and R9 are rows of docs/TRACE.md. Definitions only.
+-- The text that a sheet is answered with; P1 to P9, R9 and L1d are rows of docs/TRACE.md. Definitions only.
 use Prim.Native.Nat.{ℕ, _+_, _*_}
 use mathlib.Core.Bool.{Bool, cond}
 use mathlib.Core.List.{List, [], map}
@@ -11,7 +11,7 @@ use Rattle.answer.specs.declared.answer.Refusal.the-variants.{Room}
 use Rattle.answer.specs.declared.answer.Refusal.the-variants as refusal
 use Rattle.answer.specs.declared.answer.Answer.{Answer}
 use Rattle.answer.specs.declared.answer.Answer.the-variants.{Done, Refused}
-use Rattle.answer.specs.Answers.{code, given}
+use Rattle.answer.specs.Answers.{code, told, given}
 use Rattle.placement.specs.declared.options.Choice.{Choice}
 use Rattle.placement.specs.declared.options.Choice.the-variants as option
 use Rattle.placement.specs.declared.placement.Choice3.the-variants as choice
@@ -61,10 +61,10 @@ abbrev pub listsOf : Sheet → Lists
 listsOf s = lists (floats (s .pairs)) (floats (s .corners)) [] []
 
 -- ---- its answer
--- P7: after the plan's own refusals, a plan of more than 1,024 vertices is 5
+-- P7, L1: after the plan's own refusals, a plan of more than 1,024 vertices is 51; its need is not printed
 abbrev pub printable : Answer → Answer
 printable (Refused e) = Refused e
-printable (Done c) = given (leb (c .vertices .0) 1024) (Room Vertices) (Done c)
+printable (Done c) = given (leb (c .vertices .0) 1024) (Room Vertices (told Vertices c)) (Done c)
 
 -- the numbers of a mesh, and of nothing else
 abbrev pub flat : Mesh → Buffers

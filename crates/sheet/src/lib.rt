@@ -91,7 +91,7 @@ fn column_of(sheet: Sheet) -> Column
     }
 }
 
-// Buffers for 1,024 vertices, so that a larger plan is refused with 5; a column has at most four
+// Buffers for 1,024 vertices, so that a larger plan is refused with 51; a column has at most four
 // indices a vertex.
 fn write_column(job: Column, pairs: &[f32], corners: &[f32], out: &mut [u8]) -> usize
     ensures { λ r. ⌜ TextWritten (columnText job (lists (now (pairs .entry)) (now (corners .entry)) [] [])) (now (out .entry)) (now (out .exit)) r ⌝ }

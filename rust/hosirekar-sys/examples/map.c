@@ -1,12 +1,12 @@
-/* Two cells beside each other, 2 and 1 high, with walls about them down to 0: the whole map, and then the
- * wall between the two alone, in other buffers. */
+/* Two cells beside each other, 2 and 1 high, with walls about them down to 0: the whole map, then what a short
+ * buffer needs, and then the wall between the two alone, in other buffers. */
 #include "hosirekar.h"
 #include <stdio.h>
 #include <string.h>
 
 enum { CELLS = 2, VERTICES = 64, INDICES = 128 };
 
-/* Buffers that are long enough; hosirekar_heightmap_plan tells what is needed. */
+/* Buffers that are long enough; hosirekar_heightmap_plan tells the counts. */
 typedef struct Mesh {
     float vertices[3 * VERTICES];
     float normals[3 * VERTICES];
@@ -52,6 +52,13 @@ int main(void) {
         whole.vertices, 3 * VERTICES, whole.normals, 3 * VERTICES,
         whole.uvs, 2 * VERTICES, whole.indices, INDICES);
     printf("answer %u: %zu vertices, %zu indices\n", answer.number, answer.vertices, answer.indices);
+
+    /* Of several short buffers the first is named, with the whole length that it needs. */
+    answer = hosirekar_heightmap_build(
+        job, cells, 54, neighbours, 12, fringe, 12, NULL, 0, corners, 12, NULL, 0, NULL, 0,
+        wall.vertices, 3 * VERTICES, wall.normals, 3 * VERTICES, wall.uvs, 100, NULL, 0);
+    if (answer.number == HOSIREKAR_ROOM_UVS)
+        printf("answer %u: the uvs need %zu numbers\n", answer.number, answer.need);
 
     /* Face 0 is the cap of cell 0, with vertices 0 to 5; face 1 is its side 0, with the next four. */
     answer = hosirekar_heightmap_face(

@@ -7,7 +7,8 @@
  * one number an index. A plan tells the counts; a buffer may be longer, and the rest is not written.
  *
  * A call answers with a number. It is 0 where the call was done, and else that of a refusal: then both
- * counts are 0 and every buffer is as it was.
+ * counts are 0 and every buffer is as it was. A refusal for room names the first buffer that is short and
+ * tells its need.
  *
  * What is assumed, for no call tests it:
  * - Floats are rounded to nearest, and subnormal numbers are neither flushed to zero nor read as zero.
@@ -27,19 +28,22 @@
 extern "C" {
 #endif
 
-/* The number of an answer: done, or the first fault in the order 1, 2, 3, 4, 6, 5 (of a merge 1, 7, 4, 5;
- * of a stored mesh 1, 2, 4, 8). */
+/* The number of an answer: done, or the first fault in the order 1, 2, 3, 4, 6, 51 to 54 (of a merge 1, 7, 4,
+ * 51 to 54; of a stored mesh 1, 2, 4, 8). */
 enum HosirekarNumber {
-    HOSIREKAR_DONE = 0,      /* The counts are those of the mesh. */
-    HOSIREKAR_SHAPE = 1,     /* A list's length, a limit, an option's number or a mark is wrong. */
-    HOSIREKAR_RANGE = 2,     /* A number is NaN, infinite or greater than 1,000,000 in magnitude. */
-    HOSIREKAR_NEIGHBOUR = 3, /* A neighbour is neither a cell nor none. */
-    HOSIREKAR_LIMIT = 4,     /* More than 65,536 vertices. */
-    HOSIREKAR_ROOM = 5,      /* A buffer is too short for the whole mesh. */
-    HOSIREKAR_NO_FACE = 6,   /* There is no face of that number. */
-    HOSIREKAR_INDEX = 7,     /* A merged mesh has an index that names none of its vertices. */
-    HOSIREKAR_EMPTY = 8,     /* The middle of no vertices is asked for. */
-    HOSIREKAR_SHEET = 9      /* A sheet does not read; only the program `panel` answers so. */
+    HOSIREKAR_DONE = 0,           /* The counts are those of the mesh. */
+    HOSIREKAR_SHAPE = 1,          /* A list's length, a limit, an option's number or a mark is wrong. */
+    HOSIREKAR_RANGE = 2,          /* A number is NaN, infinite or greater than 1,000,000 in magnitude. */
+    HOSIREKAR_NEIGHBOUR = 3,      /* A neighbour is neither a cell nor none. */
+    HOSIREKAR_LIMIT = 4,          /* More than 65,536 vertices. */
+    HOSIREKAR_ROOM_VERTICES = 51, /* The vertices buffer is too short for the whole mesh. */
+    HOSIREKAR_ROOM_NORMALS = 52,  /* The normals buffer is the first that is too short for the whole mesh. */
+    HOSIREKAR_ROOM_UVS = 53,      /* The uvs buffer is the first that is too short for the whole mesh. */
+    HOSIREKAR_ROOM_INDICES = 54,  /* The indices buffer is the first that is too short for the whole mesh. */
+    HOSIREKAR_NO_FACE = 6,        /* There is no face of that number. */
+    HOSIREKAR_INDEX = 7,          /* A merged mesh has an index that names none of its vertices. */
+    HOSIREKAR_EMPTY = 8,          /* The middle of no vertices is asked for. */
+    HOSIREKAR_SHEET = 9           /* A sheet does not read; only the program `panel` answers so. */
 };
 
 /* The option that names no entry of the table: a plain face, or among a map's customs the job's own. */
@@ -95,12 +99,16 @@ typedef struct HosirekarPlacement {
     HosirekarChoice3 offset;
 } HosirekarPlacement;
 
-/* What a call answers: a HosirekarNumber, and the counts of the whole mesh. */
+/* What a call answers: a HosirekarNumber, the counts of the whole mesh, and the need of a buffer that is
+ * short. */
 typedef struct HosirekarAnswer {
     uint32_t number;
     uint32_t spare; /* 0 */
     size_t vertices;
     size_t indices;
+    /* Beside 51 to 54, how many numbers the whole mesh needs in that buffer: its whole length, not what is
+     * missing. Else 0. */
+    size_t need;
 } HosirekarAnswer;
 
 /* An answer, and the middle of the positions: +0 where the call was refused. */
@@ -455,7 +463,8 @@ HosirekarWindow hosirekar_heightmap_window(
 
 /* ---- Stored meshes: counts, and lists that are at least as long. Their numbers may be anything. */
 
-/* Appends a source mesh to a target, or writes nothing. */
+/* Appends a source mesh to a target, or writes nothing. A need is that of both together; a target that is
+ * shorter than its own counts gives 1. */
 HosirekarAnswer hosirekar_merge(
     HosirekarCounts source,
     const float *svertices, size_t svertices_len,

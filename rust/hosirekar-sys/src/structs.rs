@@ -69,11 +69,13 @@ pub struct CPlacement {
     pub offset: CChoice3,
 }
 
-/// A number, 0 where the call was done and else that of a refusal, and the counts.
+/// A number, 0 where the call was done and else that of a refusal, the counts, and the need of a
+/// buffer that is short.
 #[repr(C)]
 #[derive(Clone, Copy, Debug, Default, PartialEq, Eq)]
 pub struct CAnswer {
-    /// 0, or why nothing was written.
+    /// 0, or why nothing was written: 51, 52, 53 or 54 where the vertices, the normals, the uvs or the
+    /// indices are the first buffer that is too short.
     pub number: u32,
     /// 0.
     pub spare: u32,
@@ -81,6 +83,9 @@ pub struct CAnswer {
     pub vertices: usize,
     /// 0 where the call was refused.
     pub indices: usize,
+    /// How many numbers the whole mesh needs in that buffer, all of them and not those that are
+    /// missing; 0 beside every other number.
+    pub need: usize,
 }
 
 /// An answer, and how many faces the job has: 0 where it was refused.

@@ -3,8 +3,8 @@
 #include <stdio.h>
 
 static void print_answer(const char *what, HosirekarAnswer answer) {
-    printf("%s: %u, %lu and %lu\n", what, answer.number, (unsigned long)answer.vertices,
-           (unsigned long)answer.indices);
+    printf("%s: %u, %lu and %lu, need %lu\n", what, answer.number, (unsigned long)answer.vertices,
+           (unsigned long)answer.indices, (unsigned long)answer.need);
 }
 
 static void print_floats(const char *what, const float *floats, int count) {
@@ -54,6 +54,8 @@ static void call_jobs(void) {
                                                               uvs, 24, indices, 48));
     print_floats("its top", vertices, 3);
     print_floats("its normal", normals, 3);
+    print_answer("no room", hosirekar_plane_build(plane, corners, 12, NULL, 0, NULL, 0, vertices, 18, normals,
+                                                  17, uvs, 11, indices, 48));
     print_answer("no face", hosirekar_plane_face(plane, corners, 12, NULL, 0, NULL, 0, 1, vertices, 36,
                                                  normals, 36, uvs, 24, indices, 48));
     print_answer("plane", hosirekar_plane_face(plane, corners, 12, NULL, 0, NULL, 0, 0, vertices, 36,
@@ -81,6 +83,8 @@ static void call_stored(void) {
     HosirekarUvCentroid uv = hosirekar_uv_centroid(one, vertices, 18, normals, 18, uvs, 12, indices, 6);
     print_answer("uv centroid", uv.answer);
     printf("it: %g %g\n", uv.centroid.x, uv.centroid.y);
+    print_answer("no room", hosirekar_merge(one, from, 9, up, 9, flat, 6, order, 3, one, vertices, 18, normals,
+                                            18, uvs, 12, indices, 5));
     print_answer("merge", hosirekar_merge(one, from, 9, up, 9, flat, 6, order, 3, one, vertices, 18, normals,
                                           18, uvs, 12, indices, 6));
     printf("indices: %u %u %u\n", indices[3], indices[4], indices[5]);

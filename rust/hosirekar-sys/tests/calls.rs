@@ -1,7 +1,7 @@
 //! Calls over the boundary: a worked case, the limits, each refusal, and every field in its place.
 
 mod common;
-use common::{done, jobs::Table, refused, Mesh};
+use common::{done, jobs::Table, needs, no_room, refused, Mesh};
 use hosirekar_sys::*;
 
 const UNWRITTEN: f32 = -77.0;
@@ -15,6 +15,13 @@ fn room(vertices: usize, indices: usize) -> Mesh {
         uvs: vec![UNWRITTEN; 2 * vertices],
         indices: vec![UNWRITTEN_INDEX; indices],
     }
+}
+
+/// Room for so many, each list in turn one short, and what a call that needs it all then answers.
+fn one_short(vertices: usize, indices: usize) -> impl Iterator<Item = (Mesh, CAnswer)> {
+    let lists = room(vertices, indices).one_short().into_iter().enumerate();
+    let needed = needs(vertices, indices);
+    lists.map(move |(list, short)| (short, no_room(list, needed[list])))
 }
 
 /// One entry: nothing altered, and an inset of the middle by a half with its inner face kept.
@@ -188,19 +195,19 @@ fn a_plan_reaches_its_limit_and_not_past_it() {
 #[test]
 fn a_buffer_one_short_is_refused_and_nothing_is_written() {
     let (job, pairs) = one_side();
-    for short in room(4, 6).one_short() {
+    for (short, wanted) in one_short(4, 6) {
         let mut mesh = short.clone();
         let answer = build_column(job, &pairs, &[0.0; 12], &Table::default(), &mut mesh);
-        assert_eq!(answer, refused(5));
+        assert_eq!(answer, wanted);
         assert_eq!(mesh, short);
     }
-    for short in room(6, 12).one_short() {
+    for (short, wanted) in one_short(6, 12) {
         let mut mesh = short.clone();
         assert_eq!(
             build_plane(plane(), &CORNERS, &Table::default(), &mut mesh),
-            refused(5)
+            wanted
         );
-        assert_eq!(plane_face(plane(), 0, &mut mesh), refused(5));
+        assert_eq!(plane_face(plane(), 0, &mut mesh), wanted);
         assert_eq!(mesh, short);
     }
 }
@@ -433,9 +440,9 @@ fn the_faces_of_a_column_in_any_order_are_the_column() {
     for (k, x) in top.vertices.iter().enumerate() {
         assert_eq!(*x != UNWRITTEN, (3 * first..3 * past).contains(&k));
     }
-    for short in room(counts.vertices, counts.indices).one_short() {
+    for (short, wanted) in one_short(counts.vertices, counts.indices) {
         let mut mesh = short.clone();
-        assert_eq!(column_face(job, &pairs, &table, 0, &mut mesh), refused(5));
+        assert_eq!(column_face(job, &pairs, &table, 0, &mut mesh), wanted);
         assert_eq!(column_face(job, &pairs, &table, 6, &mut mesh), refused(6));
         assert_eq!(mesh, short);
     }
@@ -525,9 +532,9 @@ fn a_merge_lays_the_source_after_the_target() {
     wanted.uvs[4..10].copy_from_slice(&source.uvs);
     wanted.indices[1..4].copy_from_slice(&[4, 2, 3]);
     assert_eq!(mesh, wanted);
-    for short in room(5, 4).one_short() {
+    for (short, wanted) in one_short(5, 4) {
         let mut mesh = short.clone();
-        assert_eq!(merge(&source, [2, 0, 1], &mut mesh), refused(5));
+        assert_eq!(merge(&source, [2, 0, 1], &mut mesh), wanted);
         assert_eq!(mesh, short);
     }
     let mut shorter = room(1, 1);

@@ -340,9 +340,14 @@ impl Words {
                 0xf_4241 => map.build(mesh.all()),
                 face => map.face(face as usize, mesh.all()),
             };
-            let wanted = [(); 3].map(|()| self.place());
-            let given = [answer.number as usize, answer.vertices, answer.indices];
-            assert_eq!(given, wanted, "{what}");
+            let wanted = CAnswer {
+                number: self.next(),
+                spare: 0,
+                vertices: self.place(),
+                indices: self.place(),
+                need: self.place(),
+            };
+            assert_eq!(answer, wanted, "{what}");
         }
         assert_eq!(digest(&mesh), [self.next(), self.next()], "{what}: digest");
     }

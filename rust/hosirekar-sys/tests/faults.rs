@@ -72,10 +72,6 @@ struct Shape {
     is_short: bool,
 }
 
-fn counts(vertices: usize, indices: usize) -> CCounts {
-    CCounts { vertices, indices }
-}
-
 fn exact(vertices: usize, indices: usize) -> Shape {
     Shape {
         counts: counts(vertices, indices),
@@ -277,14 +273,14 @@ const JOB_CALLS: [JobCall; 5] = [
     JobCall::Face(usize::MAX),
 ];
 
-/// The order is 1, 2, 6, 5. A plan asks for no face and no room.
-fn cheap_number(call: JobCall, corners: usize, is_beyond: bool, is_tight: bool) -> u32 {
+/// The order is 1, 2, 6, 51 to 54. A plan asks for no face and no room.
+fn cheap_number(call: JobCall, corners: usize, is_beyond: bool, tight: Option<usize>) -> u32 {
     match call {
         _ if corners != 12 => 1,
         _ if is_beyond => 2,
         JobCall::Face(1..) => 6,
-        JobCall::Build | JobCall::Face(_) if is_tight => 5,
-        _ => 0,
+        JobCall::Build | JobCall::Face(_) => tight.map_or(0, room_number),
+        JobCall::Plan => 0,
     }
 }
 
@@ -306,7 +302,7 @@ fn hold_cheap(corners: usize, place: usize, value: u32, lent: Lengths) {
     let fresh = Mesh::known(longer(need));
     for call in JOB_CALLS {
         let what = format!("{call:?}, {corners} corners, {value:08x} at {place}, lent {lent:?}");
-        let number = cheap_number(call, corners, is_beyond, lent != need);
+        let number = cheap_number(call, corners, is_beyond, first_short(lent, need));
         let mut made = fresh.clone();
         let given = call_job(&job, call, made.front(lent));
         assert_eq!(given, answer(number, counts(12, 48)), "{what}");

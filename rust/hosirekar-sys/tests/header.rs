@@ -79,25 +79,41 @@ fn upper(name: &str) -> String {
     name.char_indices().map(letter).collect()
 }
 
-/// The numbers of answers, from the function that numbers the refusals.
-fn numbers() -> String {
-    let text = plain(&read(Path::new("../../crates/answer/src/answer.rt")));
-    let (_, body) = text.split_once("fn refusal_code(").expect("a function");
-    let (_, body) = body.split_once("match why {").expect("its cases");
+/// The cases of a function that matches on an enum, each with what it gives.
+fn cases(text: &str, function: &str, kind: &str) -> Vec<(String, String)> {
+    let (_, body) = text
+        .split_once(&format!("fn {function}("))
+        .expect("a function");
+    let (_, body) = body.split_once("match ").expect("a match");
+    let (_, body) = body.split_once('{').expect("its cases");
     let (body, _) = body.split_once('}').expect("their end");
     let case = |case: &str| {
-        let (name, number) = case.split_once(" => ").expect("a case");
-        let (name, number) = (name.trim_end_matches("(_)"), number.trim_end());
-        format!(
-            "HOSIREKAR_{} = {}",
-            upper(name),
-            number.trim_end_matches(',')
-        )
+        let (name, given) = case.split_once(" => ").expect("a case");
+        let (name, _) = name.split_once('(').unwrap_or((name, ""));
+        let given = given.trim_end().trim_end_matches(',');
+        (upper(name), given.to_string())
     };
-    let refusals: Vec<String> = body.split("Refusal::").skip(1).map(case).collect();
+    body.split(&format!("{kind}::")).skip(1).map(case).collect()
+}
+
+/// The numbers of answers, from the functions that number the refusals and the buffers that are short.
+fn numbers() -> String {
+    let text = plain(&read(Path::new("../../crates/answer/src/answer.rt")));
+    let buffers = cases(&text, "room_code", "Buffer");
+    assert_eq!(buffers.len(), 4, "{buffers:?}");
+    let refusals = cases(&text, "refusal_code", "Refusal");
     assert!(refusals.len() >= 9, "{refusals:?}");
-    let refusals = refusals.join(", ");
-    format!("enum HosirekarNumber {{ HOSIREKAR_DONE = 0, {refusals} }}")
+    let numbers = refusals.into_iter().flat_map(|(name, given)| {
+        if given != "room_code(buffer)" {
+            return vec![format!("HOSIREKAR_{name} = {given}")];
+        }
+        let each = buffers.iter();
+        each.map(|(buffer, number)| format!("HOSIREKAR_{name}_{buffer} = {number}"))
+            .collect()
+    });
+    let numbers: Vec<String> = numbers.collect();
+    let numbers = numbers.join(", ");
+    format!("enum HosirekarNumber {{ HOSIREKAR_DONE = 0, {numbers} }}")
 }
 
 /// What the header declares, without comments and the lines of the preprocessor.
@@ -173,7 +189,7 @@ fn layouts() -> Vec<Layout> {
         CChoice3 { given value }
         CTurn { given first second third }
         CPlacement { scale turn offset }
-        CAnswer { number spare vertices indices }
+        CAnswer { number spare vertices indices need }
         CCentroid { answer centroid }
         CUvCentroid { answer centroid }
         CFaces { answer faces }

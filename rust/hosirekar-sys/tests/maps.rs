@@ -1,5 +1,5 @@
 //! Height maps at their limits, which sides stand, and faults beside each other: the first in the order
-//! 1, 2, 3, 4, 6, 5 gives the number, and every place of the lists stays as it was.
+//! 1, 2, 3, 4, 6, 51 to 54 gives the number, and every place of the lists stays as it was.
 
 mod common;
 use common::faults::*;
@@ -96,38 +96,28 @@ fn hold_done(map: &HeightMap, faces: usize, vertices: usize, indices: usize, wha
     for face in [0, faces - 1] {
         let mut alone = known.clone();
         assert_eq!(map.face(face, alone.all()), answer, "{what}: face {face}");
-        let mut wanted = known.clone();
-        let [a, b] = [face * each, (face + 1) * each];
-        wanted.vertices[3 * a..3 * b].copy_from_slice(&whole.vertices[3 * a..3 * b]);
-        wanted.normals[3 * a..3 * b].copy_from_slice(&whole.normals[3 * a..3 * b]);
-        wanted.uvs[2 * a..2 * b].copy_from_slice(&whole.uvs[2 * a..2 * b]);
-        let [a, b] = [face * triangles, (face + 1) * triangles];
-        wanted.indices[a..b].copy_from_slice(&whole.indices[a..b]);
+        let vertices = face * each..(face + 1) * each;
+        let indices = face * triangles..(face + 1) * triangles;
+        let wanted = known.clone().with_places(&whole, [vertices, indices]);
         alone.hold(&wanted, format_args!("{what}: face {face}"));
     }
+    hold_no_room(map, faces, needs(vertices, indices), what);
+}
+
+/// Each list one short, for the build and for a face; a number of no face comes before that.
+fn hold_no_room(map: &HeightMap, faces: usize, exact: Lengths, what: &str) {
+    let room = longer(exact);
+    let known = Mesh::known(room);
     let mut mesh = known.clone();
-    assert_eq!(
-        map.face(faces, mesh.all()),
-        refused(6),
-        "{what}: face {faces}"
-    );
+    let answer = map.face(faces, mesh.all());
+    assert_eq!(answer, refused(6), "{what}: face {faces}");
     for list in 0..4 {
-        let short = shortened(room, needs(vertices, indices), list);
-        assert_eq!(
-            map.build(mesh.front(short)),
-            refused(5),
-            "{what}: list {list} short"
-        );
-        assert_eq!(
-            map.face(0, mesh.front(short)),
-            refused(5),
-            "{what}: list {list} short"
-        );
-        assert_eq!(
-            map.face(faces, mesh.front(short)),
-            refused(6),
-            "{what}: 6 before 5"
-        );
+        let what = format!("{what}: list {list} short");
+        let (short, wanted) = (shortened(room, exact, list), no_room(list, exact[list]));
+        assert_eq!(map.build(mesh.front(short)), wanted, "{what}");
+        assert_eq!(map.face(0, mesh.front(short)), wanted, "{what}");
+        let answer = map.face(faces, mesh.front(short));
+        assert_eq!(answer, refused(6), "{what}: face {faces}");
     }
     mesh.hold(&known, what);
 }

@@ -5,9 +5,11 @@
 mod compiler;
 use compiler::{Language, C, CPP};
 
-/// Two caps, six walls of the higher cell and five of the lower; then the ends of the wall between them.
+/// Two caps, six walls of the higher cell and five of the lower; what the uvs of all need; the ends of the wall
+/// between them.
 const MAP: &str = "\
 answer 0: 56 vertices, 90 indices
+answer 53: the uvs need 112 numbers
 1 1 2
 1 2 2
 2 2 0
@@ -21,35 +23,37 @@ root: 2.5
 fused: 22
 altered: 4.5 18
 wrapped: 0.5 0
-column: 0, 42 and 66
-faces: 0, 42 and 66
+column: 0, 42 and 66, need 0
+faces: 0, 42 and 66, need 0
 they: 10
-window: 0, 42 and 66
+window: 0, 42 and 66, need 0
 it: 6 and 12 from 36 and 54
-window: 6, 0 and 0
+window: 6, 0 and 0, need 0
 it: 0 and 0 from 0 and 0
-cheap column: 0, 12 and 48
+cheap column: 0, 12 and 48, need 0
 its top: 2 3 0
 its normal: 1.5 0 0.25
-no face: 6, 0 and 0
-plane: 0, 6 and 12
+no room: 52, 0 and 0, need 18
+no face: 6, 0 and 0, need 0
+plane: 0, 6 and 12, need 0
 its corner: 17 6 27
-map: 0, 0 and 0
-too far: 2, 0 and 0
-load: 0, 0 and 0
+map: 0, 0 and 0, need 0
+too far: 2, 0 and 0, need 0
+load: 0, 0 and 0, need 0
 its cells: 4 5 6 7 8 9 10 11
 past them: -1
 its neighbours: 0 1 4294967295
-too short: 1, 0 and 0
-scale: 0, 3 and 3
-offset: 0, 2 and 2
+too short: 1, 0 and 0, need 0
+scale: 0, 3 and 3, need 0
+offset: 0, 2 and 2, need 0
 vertices: 1 10 100 7 10 100 0 18 36
-texture: 0, 3 and 3
-uv centroid: 0, 3 and 3
+texture: 0, 3 and 3, need 0
+uv centroid: 0, 3 and 3, need 0
 it: 2 1
-merge: 0, 6 and 6
+no room: 54, 0 and 0, need 6
+merge: 0, 6 and 6, need 0
 indices: 5 4 3
-centroid: 0, 6 and 6
+centroid: 0, 6 and 6, need 0
 it: 3 8 40
 ";
 

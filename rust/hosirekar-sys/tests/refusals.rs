@@ -1,4 +1,4 @@
-//! Planes and columns with a fault of every kind beside each other: the first in the order 1, 2, 4, 6, 5
+//! Planes and columns with a fault of every kind beside each other: the first in the order 1, 2, 4, 6, 51 to 54
 //! gives the number, and every place of the lists stays as it was.
 
 mod common;
@@ -117,12 +117,12 @@ struct Tried<J> {
 }
 
 /// The number of a call where 1, 2 or 4 comes first, or none of them.
-fn number(first: u32, call: JobCall, faces: usize, is_tight: bool) -> u32 {
+fn number(first: u32, call: JobCall, faces: usize, tight: Option<usize>) -> u32 {
     match call {
         _ if first > 0 => first,
         JobCall::Face(face) if face >= faces => 6,
-        JobCall::Build | JobCall::Face(_) if is_tight => 5,
-        _ => 0,
+        JobCall::Build | JobCall::Face(_) => tight.map_or(0, room_number),
+        JobCall::Plan => 0,
     }
 }
 
@@ -134,7 +134,7 @@ fn hold_calls<J: Job>(tried: &Tried<J>, first: u32, whole: &Mesh, fresh: &Mesh, 
     let mut left = fresh.clone();
     for room in std::iter::once(need).chain(tight) {
         for call in [JobCall::Plan, JobCall::Build].into_iter().chain(calls) {
-            let number = number(first, call, faces, room != need);
+            let number = number(first, call, faces, first_short(room, need));
             // A call that fills lists is lent its own, or it would hide what others wrote.
             let mut filled = (number == 0 && call != JobCall::Plan).then(|| fresh.clone());
             let lent = filled.as_mut().unwrap_or(&mut left).front(room);

@@ -63,6 +63,19 @@
 //! );
 //! ```
 //!
+//! The refusal for room names the first buffer that is too short, and what the whole mesh needs in it:
+//!
+//! ```
+//! use hosirekar::{Buffer, Column, Job, Mesh, Refusal};
+//!
+//! let why = Column::default().build_into(&mut Mesh::default().buffers()).unwrap_err();
+//! assert_eq!(why, Refusal::Room { buffer: Buffer::Vertices, need: 108 });
+//! assert_eq!(
+//!     why.to_string(),
+//!     "the vertices buffer is too short: lengthen it to at least 108 numbers, three a vertex",
+//! );
+//! ```
+//!
 //! # Axes
 //!
 //! They are right-handed with y up. A job is scaled, then turned, then moved; position, offset and origin
@@ -112,4 +125,4 @@ pub use mesh::{Counts, Mesh, MeshBuffers, Window};
 pub use options::{FaceOptions, InsetOptions, InsetScaleMode, Rect, UVOptions};
 pub use plane::Plane;
 pub use range::OutOfRange;
-pub use refusal::Refusal;
+pub use refusal::{Buffer, Refusal};

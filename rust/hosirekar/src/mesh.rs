@@ -144,7 +144,7 @@ impl Mesh {
         let rhs = rhs.lists();
         // Without more room the call says whether room is all that is wanting.
         match merge(rhs, &mut self.buffers(), target) {
-            Err(Refusal::Room) => {
+            Err(Refusal::Room { .. }) => {
                 self.resize(target.and(source));
                 merge(rhs, &mut self.buffers(), target)
             }

@@ -4,6 +4,51 @@ use crate::{Counts, OutOfRange, Window};
 use hosirekar_sys::{CAnswer, CFaces, CWindow};
 use std::fmt;
 
+/// One of the four buffers that a mesh is written to. Their order is that in which they are tested for
+/// room.
+#[derive(Clone, Copy, Debug, PartialEq, Eq, PartialOrd, Ord, Hash)]
+pub enum Buffer {
+    /// Three numbers a vertex.
+    Vertices,
+    /// Three numbers a vertex.
+    Normals,
+    /// Two numbers a vertex.
+    Uvs,
+    /// One number an index.
+    Indices,
+}
+
+impl Buffer {
+    /// All of them, in their order.
+    pub const ALL: [Buffer; 4] = [
+        Buffer::Vertices,
+        Buffer::Normals,
+        Buffer::Uvs,
+        Buffer::Indices,
+    ];
+
+    /// How many numbers an entry of it has: 3, 3, 2 or 1.
+    #[must_use]
+    pub const fn width(self) -> usize {
+        match self {
+            Buffer::Vertices | Buffer::Normals => 3,
+            Buffer::Uvs => 2,
+            Buffer::Indices => 1,
+        }
+    }
+}
+
+impl fmt::Display for Buffer {
+    fn fmt(&self, f: &mut fmt::Formatter<'_>) -> fmt::Result {
+        f.pad(match self {
+            Buffer::Vertices => "vertices",
+            Buffer::Normals => "normals",
+            Buffer::Uvs => "uvs",
+            Buffer::Indices => "indices",
+        })
+    }
+}
+
 /// Why a call was refused. It then wrote nothing.
 ///
 /// ```
@@ -26,7 +71,32 @@ pub enum Refusal {
     /// There would be more than 65,536 vertices, or more indices than so many have in any plan.
     Limit,
     /// A lent buffer is shorter than the whole mesh needs.
-    Room,
+    ///
+    /// ```
+    /// use hosirekar::{Buffer, Column, Counts, Job, Mesh, Refusal};
+    ///
+    /// // A column of 36 vertices.
+    /// let column = Column::default();
+    /// let mut mesh = Mesh::zeroed(Counts { vertices: 36, indices: 60 })?;
+    /// mesh.uvs.truncate(30);
+    /// let why = column.build_into(&mut mesh.buffers()).unwrap_err();
+    /// assert_eq!(
+    ///     why.to_string(),
+    ///     "the uvs buffer is too short: lengthen it to at least 72 numbers, two a vertex",
+    /// );
+    /// let Refusal::Room { buffer: Buffer::Uvs, need } = why else { unreachable!() };
+    /// mesh.uvs.resize(need / Buffer::Uvs.width(), [0.0; 2]);
+    /// assert!(column.build_into(&mut mesh.buffers()).is_ok());
+    /// # Ok::<(), Refusal>(())
+    /// ```
+    Room {
+        /// The first that is too short.
+        buffer: Buffer,
+        /// How many numbers the whole mesh needs in it: its whole length, not what is missing. Divided by
+        /// [`Buffer::width`] it is the length of a list of [`MeshBuffers`](crate::MeshBuffers). It is 0
+        /// where it is not known.
+        need: usize,
+    },
     /// The job has no face of that number.
     NoFace,
     /// A mesh to be merged has an index that is none of its vertices.
@@ -36,19 +106,28 @@ pub enum Refusal {
 }
 
 impl Refusal {
-    /// All of them, by their numbers from 1. Of the [`Range`](Refusal::Range) no place is known.
-    pub const ALL: [Refusal; 8] = [
+    /// All of them, by their numbers. Of the [`Range`](Refusal::Range) no place is known, and of the
+    /// [`Room`](Refusal::Room) no need.
+    pub const ALL: [Refusal; 11] = [
         Refusal::Shape,
         Refusal::Range(OutOfRange::UNKNOWN),
         Refusal::Neighbour,
         Refusal::Limit,
-        Refusal::Room,
         Refusal::NoFace,
         Refusal::Index,
         Refusal::Empty,
+        Refusal::short(Buffer::Vertices),
+        Refusal::short(Buffer::Normals),
+        Refusal::short(Buffer::Uvs),
+        Refusal::short(Buffer::Indices),
     ];
 
-    /// Its number, 1 to 8.
+    /// Room in a buffer of which no need is known.
+    const fn short(buffer: Buffer) -> Refusal {
+        Refusal::Room { buffer, need: 0 }
+    }
+
+    /// Its number: 1 to 4, 6 to 8, and 51 to 54 where a buffer is too short.
     #[must_use]
     pub const fn number(self) -> u32 {
         match self {
@@ -56,19 +135,37 @@ impl Refusal {
             Refusal::Range(_) => 2,
             Refusal::Neighbour => 3,
             Refusal::Limit => 4,
-            Refusal::Room => 5,
+            Refusal::Room { buffer, .. } => match buffer {
+                Buffer::Vertices => 51,
+                Buffer::Normals => 52,
+                Buffer::Uvs => 53,
+                Buffer::Indices => 54,
+            },
             Refusal::NoFace => 6,
             Refusal::Index => 7,
             Refusal::Empty => 8,
         }
     }
 
-    /// The refusal of that number. Of the [`Range`](Refusal::Range) no place is known.
+    /// The refusal of that number. Of the [`Range`](Refusal::Range) no place is known, and of the
+    /// [`Room`](Refusal::Room) no need, so it does not equal what a call answers.
     #[must_use]
     pub const fn from_number(number: u32) -> Option<Refusal> {
-        match number {
-            1..=8 => Some(Refusal::ALL[number as usize - 1]),
-            _ => None,
+        let mut k = 0;
+        while k < Refusal::ALL.len() {
+            if Refusal::ALL[k].number() == number {
+                return Some(Refusal::ALL[k]);
+            }
+            k += 1;
+        }
+        None
+    }
+
+    /// The same with the need that a call tells.
+    fn with_need(self, need: usize) -> Refusal {
+        match self {
+            Refusal::Room { buffer, .. } => Refusal::Room { buffer, need },
+            other => other,
         }
     }
 }
@@ -84,7 +181,7 @@ impl fmt::Display for Refusal {
             Refusal::Limit => {
                 "more than 65,536 vertices, or the indices of more: ask for fewer faces, parts or insets, or for several meshes"
             }
-            Refusal::Room => "a buffer is too short: lend four with the room that the plan counts",
+            Refusal::Room { buffer, need } => return write_room(f, *buffer, *need),
             Refusal::NoFace => "the job has no face of that number: count its faces from 0",
             Refusal::Index => {
                 "an index of the mesh to be merged names no vertex: keep indices below its vertex count"
@@ -93,6 +190,20 @@ impl fmt::Display for Refusal {
                 "the mesh has no vertices and so no centroid: build or merge into it first"
             }
         })
+    }
+}
+
+/// Which buffer is to be lengthened, and to what.
+fn write_room(f: &mut fmt::Formatter<'_>, buffer: Buffer, need: usize) -> fmt::Result {
+    let each = match buffer {
+        Buffer::Vertices | Buffer::Normals => "three a vertex",
+        Buffer::Uvs => "two a vertex",
+        Buffer::Indices => "one an index",
+    };
+    write!(f, "the {buffer} buffer is too short: lengthen it to ")?;
+    match need {
+        0 => write!(f, "all numbers of the whole mesh, {each}"),
+        _ => write!(f, "at least {need} numbers, {each}"),
     }
 }
 
@@ -108,7 +219,8 @@ pub(crate) fn answered(answer: CAnswer) -> Result<Counts, Refusal> {
         });
     }
     // The archive's promises give no other number.
-    Err(Refusal::from_number(answer.number).expect("an answer's number is at most 8"))
+    let why = Refusal::from_number(answer.number).expect("an answer's number is that of a refusal");
+    Err(why.with_need(answer.need))
 }
 
 /// How many faces there are, or the refusal.

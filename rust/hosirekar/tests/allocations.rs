@@ -112,4 +112,7 @@ fn a_refusal_asks_for_no_memory() {
     let mut mesh = plane().build().unwrap();
     assert_eq!(asked(|| mesh.add(&ready).unwrap_err()), 0);
     assert_eq!(asked(|| mesh.scale([f32::NAN; 3]).unwrap_err()), 0);
+    let mut none = Mesh::default();
+    let short = || plane().build_into(&mut none.buffers()).unwrap_err();
+    assert_eq!(asked(short), 0);
 }

@@ -369,16 +369,28 @@ fn too_many_vertices_are_refused_after_numbers_and_before_faces_and_room() {
     assert_eq!(mesh, filled(1, 1));
 }
 
+/// What a mesh of these counts needs of each buffer.
+fn needs(counts: Counts) -> [usize; 4] {
+    let vertices = counts.vertices;
+    [3 * vertices, 3 * vertices, 2 * vertices, counts.indices]
+}
+
+fn no_room(counts: Counts, list: usize) -> Refusal {
+    Refusal::Room {
+        buffer: Buffer::ALL[list],
+        need: needs(counts)[list],
+    }
+}
+
 fn one_short_is_refused(job: &impl Job, faces: usize) {
     let counts = job.plan().unwrap();
-    for short in one_short(&filled(counts.vertices, counts.indices)) {
+    let meshes = one_short(&filled(counts.vertices, counts.indices));
+    for (list, short) in meshes.into_iter().enumerate() {
+        let why = no_room(counts, list);
         let mut mesh = short.clone();
-        assert_eq!(job.build_into(&mut mesh.buffers()), Err(Refusal::Room));
+        assert_eq!(job.build_into(&mut mesh.buffers()), Err(why));
         for face in 0..faces {
-            assert_eq!(
-                job.build_face(face, &mut mesh.buffers()),
-                Err(Refusal::Room)
-            );
+            assert_eq!(job.build_face(face, &mut mesh.buffers()), Err(why));
         }
         for face in [faces, usize::MAX] {
             assert_eq!(
@@ -396,6 +408,104 @@ fn a_list_one_short_is_refused_and_left_as_it_was() {
     one_short_is_refused(&column(), 20);
     one_short_is_refused(&cheap_column(), 1);
     one_short_is_refused(&heightmap(), 14);
+}
+
+/// Lengthens the buffer that a refusal names to the need that it tells.
+fn lengthen(mesh: &mut Mesh, why: Refusal) {
+    let Refusal::Room { buffer, need } = why else {
+        panic!("{why}");
+    };
+    let length = need / buffer.width();
+    assert_eq!(length * buffer.width(), need);
+    match buffer {
+        Buffer::Vertices => mesh.vertices.resize(length, [-77.0; 3]),
+        Buffer::Normals => mesh.normals.resize(length, [-77.0; 3]),
+        Buffer::Uvs => mesh.uvs.resize(length, [-77.0; 2]),
+        Buffer::Indices => mesh.indices.resize(length, 7777),
+    }
+}
+
+type Answer = Result<Counts, Refusal>;
+
+/// From lists of these lengths, some of them short: each is named in its order, once.
+fn lengthening_gets_past_it(job: &impl Job, mut mesh: Mesh, call: impl Fn(&mut Mesh) -> Answer) {
+    let counts = job.plan().unwrap();
+    let lengths = |mesh: &Mesh| {
+        let (normals, uvs) = (mesh.normals.len(), mesh.uvs.len());
+        [mesh.vertices.len(), normals, uvs, mesh.indices.len()]
+    };
+    for list in 0..4 {
+        if lengths(&mesh)[list] * Buffer::ALL[list].width() >= needs(counts)[list] {
+            continue;
+        }
+        let before = mesh.clone();
+        let why = call(&mut mesh).unwrap_err();
+        assert_eq!(why, no_room(counts, list));
+        assert_eq!(mesh, before);
+        lengthen(&mut mesh, why);
+    }
+    assert_eq!(call(&mut mesh), Ok(counts));
+}
+
+/// Every set of short lists: one short, and empty.
+fn every_short_list_is_named(job: &impl Job, faces: usize) {
+    let counts = job.plan().unwrap();
+    let full = filled(counts.vertices, counts.indices);
+    let (short, none) = (one_short(&full), Mesh::default());
+    for set in 0..81 {
+        // Each list full, one short or empty.
+        let of = |list: usize| [&full, &short[list], &none][set / 3usize.pow(list as u32) % 3];
+        let mesh = Mesh {
+            vertices: of(0).vertices.clone(),
+            normals: of(1).normals.clone(),
+            uvs: of(2).uvs.clone(),
+            indices: of(3).indices.clone(),
+        };
+        lengthening_gets_past_it(job, mesh.clone(), |to| job.build_into(&mut to.buffers()));
+        for face in [0, faces - 1] {
+            lengthening_gets_past_it(job, mesh.clone(), |to| {
+                job.build_face(face, &mut to.buffers())
+            });
+        }
+    }
+}
+
+#[test]
+fn a_short_list_is_named_with_what_it_needs() {
+    every_short_list_is_named(&plane(), 1);
+    every_short_list_is_named(&column(), 20);
+    every_short_list_is_named(&cheap_column(), 1);
+    every_short_list_is_named(&heightmap(), 14);
+}
+
+#[test]
+fn a_refusal_says_which_buffer_to_lengthen_and_to_what() {
+    let words = [
+        "the vertices buffer is too short: lengthen it to at least 108 numbers, three a vertex",
+        "the normals buffer is too short: lengthen it to at least 108 numbers, three a vertex",
+        "the uvs buffer is too short: lengthen it to at least 72 numbers, two a vertex",
+        "the indices buffer is too short: lengthen it to at least 60 numbers, one an index",
+    ];
+    let unknown = [
+        "the vertices buffer is too short: lengthen it to all numbers of the whole mesh, three a vertex",
+        "the normals buffer is too short: lengthen it to all numbers of the whole mesh, three a vertex",
+        "the uvs buffer is too short: lengthen it to all numbers of the whole mesh, two a vertex",
+        "the indices buffer is too short: lengthen it to all numbers of the whole mesh, one an index",
+    ];
+    let short = one_short(&filled(36, 60)).into_iter();
+    for (k, (mut mesh, buffer)) in short.zip(Buffer::ALL).enumerate() {
+        let why = Column::new(CORNERS, 8.0)
+            .build_into(&mut mesh.buffers())
+            .unwrap_err();
+        assert_eq!(
+            (why.to_string(), why.number()),
+            (words[k].to_string(), 51 + k as u32)
+        );
+        let none = Refusal::from_number(why.number());
+        assert_eq!(none, Some(Refusal::Room { buffer, need: 0 }));
+        assert_eq!(none.unwrap().to_string(), unknown[k]);
+        assert!(words[k].contains(&buffer.to_string()));
+    }
 }
 
 #[test]
@@ -442,13 +552,14 @@ fn a_centroid_of_nothing_is_refused() {
 
 #[test]
 fn numbers_and_words_tell_refusals_apart() {
-    for (k, why) in (1..).zip(Refusal::ALL) {
-        assert_eq!((why.number(), Refusal::from_number(k)), (k, Some(why)));
+    let numbers = [1, 2, 3, 4, 6, 7, 8, 51, 52, 53, 54];
+    assert_eq!(Refusal::ALL.map(Refusal::number), numbers);
+    for (k, why) in numbers.into_iter().zip(Refusal::ALL) {
+        assert_eq!(Refusal::from_number(k), Some(why));
         let error: &dyn std::error::Error = &why;
         assert!(error.to_string().contains(": "), "{why:?} says what to do");
     }
-    assert_eq!(Refusal::ALL.len(), 8);
-    for none in [0, 9, 10, 257, u32::MAX] {
+    for none in [0, 5, 9, 10, 50, 55, 257, u32::MAX] {
         assert_eq!(Refusal::from_number(none), None);
     }
     let mut words = Refusal::ALL.map(|why| why.to_string());
@@ -540,14 +651,14 @@ fn every_call_is_answered(mesh: &Mesh, refused: Option<Refusal>) {
 /// Every call of a job that writes to these lists, of any lengths.
 fn every_job_is_answered(mesh: &Mesh, job: &impl Job) {
     let counts = job.plan().unwrap();
-    let has_room = mesh.vertices.len().min(mesh.normals.len()) >= counts.vertices
-        && mesh.uvs.len() >= counts.vertices
-        && mesh.indices.len() >= counts.indices;
-    let answer = if has_room {
-        Ok(counts)
-    } else {
-        Err(Refusal::Room)
-    };
+    let has_room = [
+        mesh.vertices.len() >= counts.vertices,
+        mesh.normals.len() >= counts.vertices,
+        mesh.uvs.len() >= counts.vertices,
+        mesh.indices.len() >= counts.indices,
+    ];
+    let short = has_room.iter().position(|has| !has);
+    let answer = short.map_or(Ok(counts), |list| Err(no_room(counts, list)));
     let mut to = mesh.clone();
     assert_eq!(
         job.build_face(usize::MAX, &mut to.buffers()),
@@ -556,7 +667,7 @@ fn every_job_is_answered(mesh: &Mesh, job: &impl Job) {
     assert!(bits(&to) == bits(mesh));
     assert_eq!(job.build_face(0, &mut to.buffers()), answer);
     assert_eq!(job.build_into(&mut to.buffers()), answer);
-    assert!(has_room || bits(&to) == bits(mesh));
+    assert!(answer.is_ok() || bits(&to) == bits(mesh));
 }
 
 #[test]

@@ -2,6 +2,7 @@
 
 use crate::MeshInfo;
 use crate::line::bits;
+use crate::room;
 
 /// How many vertices and indices there are.
 #[derive(Debug, Clone, Copy, Default, PartialEq, Eq)]
@@ -32,8 +33,7 @@ impl Counts {
     /// The lengths that the four lists need at least.
     #[must_use]
     pub const fn lengths(self) -> [usize; 4] {
-        let v = self.vertices;
-        [3 * v, 3 * v, 2 * v, self.indices]
+        room::lengths([self.vertices, self.indices])
     }
 }
 

@@ -5,6 +5,7 @@ use crate::MeshInfo;
 use crate::buffers::{Buffers, Counts};
 use crate::ours::{Call, Job};
 use crate::random::Random;
+use crate::room;
 use crate::safe::Safe;
 use crate::safe_calls;
 use hosirekar_sys::CAnswer;
@@ -51,6 +52,15 @@ pub fn refused(number: u32) -> CAnswer {
     CAnswer {
         number,
         ..CAnswer::default()
+    }
+}
+
+/// The answer of a call that is refused for a list of which so much is needed.
+#[must_use]
+pub fn no_room(list: usize, need: usize) -> CAnswer {
+    CAnswer {
+        need,
+        ..refused(room::number(list))
     }
 }
 
@@ -143,21 +153,23 @@ impl Trial {
         hold_buffers("build", &buffers, &wanted)
     }
 
-    /// Where a list is one short, a build and a face call are refused.
+    /// Where a list is one short, by itself or with all later ones empty, a
+    /// build and a face call are refused for it.
     pub fn short(&self, random: &mut Random) -> Result<(), String> {
         let exact = self.counts().lengths();
         let untouched = Buffers::marked(exact);
         let mut buffers = untouched.clone();
         for list in (0..4).filter(|&list| exact[list] > 0) {
-            let mut lengths = exact;
-            lengths[list] -= 1;
-            let build = self.call.build(buffers.cut(lengths));
-            hold("short build", build, refused(5))?;
-            let face = self.some_face(random);
-            let face = self.call.face(face, buffers.cut(lengths));
-            hold("short face", face, refused(5))?;
-            let none = self.call.face(self.faces(), buffers.cut(lengths));
-            hold("short face that is not there", none, refused(6))?;
+            let wanted = no_room(list, exact[list]);
+            let some = self.some_face(random);
+            for lengths in short_of(exact, [0; 4], list) {
+                let build = self.call.build(buffers.cut(lengths));
+                hold("short build", build, wanted)?;
+                let face = self.call.face(some, buffers.cut(lengths));
+                hold("short face", face, wanted)?;
+                let none = self.call.face(self.faces(), buffers.cut(lengths));
+                hold("short face that is not there", none, refused(6))?;
+            }
         }
         hold_buffers("short", &buffers, &untouched)
     }
@@ -210,6 +222,17 @@ impl Trial {
         };
         hold("faulty call", answer, refused(number))
     }
+}
+
+/// A list one short, with the others exact, and with all later ones at their
+/// least.
+#[must_use]
+pub fn short_of(exact: [usize; 4], least: [usize; 4], list: usize) -> [[usize; 4]; 2] {
+    let mut alone = exact;
+    alone[list] -= 1;
+    let mut first = alone;
+    first[list + 1..].copy_from_slice(&least[list + 1..]);
+    [alone, first]
 }
 
 /// Every number below `count` once, and some twice, in any order.

@@ -174,9 +174,23 @@ fn out_of_range(
     all
 }
 
-/// Each list one short and exact lists, with every call.
+/// The lists that are short: each alone, and each two.
+const SHORT: [&[usize]; 10] = [
+    &[0],
+    &[1],
+    &[2],
+    &[3],
+    &[0, 1],
+    &[0, 2],
+    &[0, 3],
+    &[1, 2],
+    &[1, 3],
+    &[2, 3],
+];
+
+/// Each list and each two one short, empty and exact lists, with every call.
 pub(crate) fn rooms<J: Words>(case: &Case<J>) -> Lines {
-    let shorts = (0..4).filter_map(|list| case.short(list));
+    let shorts = SHORT.iter().filter_map(|lists| case.short(lists));
     let mut calls = case.every_call().to_vec();
     calls.push(Call::Face(0));
     let lent = shorts.chain([[0; 4], case.exact()]);

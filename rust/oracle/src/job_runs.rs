@@ -7,6 +7,7 @@ use crate::builders::{Column, Plane};
 use crate::digest::{Digest, Lists};
 use crate::job_words::{Job, Lines, Words};
 use crate::mesh_cases::Column as CheapColumn;
+use crate::room::{self, first_short, lengths};
 use crate::{FaceOptions, MeshInfo};
 use glam::Vec2;
 
@@ -99,19 +100,19 @@ impl<J: Words> Case<J> {
         self.faces[..face].iter().fold([0; 2], sum)
     }
 
-    /// The number of a call.
-    fn number(&self, call: Call, lengths: [usize; 4]) -> u32 {
+    /// What a call answers: its number, both counts and the need.
+    fn answer(&self, call: Call, lent: [usize; 4]) -> [usize; 4] {
         if let Some(fault) = self.fault {
-            return fault as u32;
+            return [fault as usize, 0, 0, 0];
         }
-        let room = match (0..4).all(|list| self.exact()[list] <= lengths[list]) {
-            true => 0,
-            false => 5,
-        };
+        let [vertices, indices] = self.start(self.faces.len());
+        let done = [0, vertices, indices, 0];
         match call {
-            Call::Plan => 0,
-            Call::Face(face) if face >= self.faces.len() => 6,
-            Call::Whole | Call::Face(_) => room,
+            Call::Plan => done,
+            Call::Face(face) if face >= self.faces.len() => [6, 0, 0, 0],
+            Call::Whole | Call::Face(_) => first_short(lent, self.exact()).map_or(done, |list| {
+                [room::number(list) as usize, 0, 0, self.exact()[list]]
+            }),
         }
     }
 
@@ -128,16 +129,18 @@ impl<J: Words> Case<J> {
         [exact[0] + 7, exact[1] + 5, exact[2] + 4, exact[3] + 3]
     }
 
-    /// Lists of which one is one too short, if it can be.
+    /// Lists of which these are one too short, if they can be.
     #[must_use]
-    pub fn short(&self, list: usize) -> Option<[usize; 4]> {
+    pub fn short(&self, lists: &[usize]) -> Option<[usize; 4]> {
         let mut lengths = self.longer();
-        lengths[list] = self.exact()[list].checked_sub(1)?;
+        for &list in lists {
+            lengths[list] = self.exact()[list].checked_sub(1)?;
+        }
         Some(lengths)
     }
 
-    /// The words of a run: how much is lent, the calls, each with its number
-    /// and counts, and the digest of what is lent in the end.
+    /// The words of a run: how much is lent, the calls, each with its answer,
+    /// and the digest of what is lent in the end.
     #[must_use]
     pub fn run(&self, lengths: [usize; 4], calls: &[Call]) -> Vec<u32> {
         assert!(lengths[..3].iter().all(|&length| length <= FLOATS));
@@ -146,13 +149,10 @@ impl<J: Words> Case<J> {
         let mut words: Vec<usize> = lengths.to_vec();
         words.push(calls.len());
         for &call in calls {
-            let number = self.number(call, lengths);
-            let [vertices, indices] = match number {
-                0 => self.start(self.faces.len()),
-                _ => [0; 2],
-            };
-            words.extend([call.word(), number as usize, vertices, indices]);
-            if number == 0 {
+            let answer = self.answer(call, lengths);
+            words.push(call.word());
+            words.extend(answer);
+            if answer[0] == 0 {
                 self.lay(call, &mut lists);
             }
         }
@@ -210,7 +210,7 @@ impl<J: Words> Case<J> {
             let alone = [Call::Face(count / 2), Call::Face(count)];
             runs.push(self.run(self.longer(), &alone));
         }
-        if let Some(short) = self.short(at % 4) {
+        if let Some(short) = self.short(&[at % 4]) {
             runs.push(self.run(short, &self.every_call()));
         }
         runs
@@ -241,10 +241,6 @@ impl Call {
 
 fn counts(mesh: &MeshInfo) -> [usize; 2] {
     [mesh.vertices.len(), mesh.indices.len()]
-}
-
-fn lengths([vertices, indices]: [usize; 2]) -> [usize; 4] {
-    [3 * vertices, 3 * vertices, 2 * vertices, indices]
 }
 
 /// The counts of each face of a column, in order.

@@ -49,6 +49,7 @@ pub mod ours;
 pub mod random;
 pub mod record;
 pub mod replay_record;
+pub mod room;
 #[cfg(feature = "archive")]
 pub mod safe;
 #[cfg(feature = "archive")]

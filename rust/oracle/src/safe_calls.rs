@@ -6,7 +6,7 @@ use crate::buffers::{Buffers, Counts};
 use crate::compare::{Trial, hold, hold_buffers};
 use crate::limits::VERTICES;
 use crate::safe::{lent, lists};
-use hosirekar::{self as safe, Job, Mesh, OutOfRange, Refusal, Window};
+use hosirekar::{self as safe, Buffer, Job, Mesh, OutOfRange, Refusal, Window};
 
 /// The answer of a call that is done.
 fn done(counts: Counts) -> Result<safe::Counts, Refusal> {
@@ -33,10 +33,11 @@ pub fn whole(job: &impl Job, mesh: &MeshInfo) -> Result<(), String> {
 }
 
 /// What is told of a job, and the windows of these of its faces; the same
-/// faces one by one; and the job put behind itself.
+/// faces one by one; the job into no room; and the job put behind itself.
 pub fn parts(job: &impl Job, trial: &Trial, faces: &[usize]) -> Result<(), String> {
     told(job, trial, faces)?;
     one_by_one(job, trial, faces)?;
+    into_nothing(job, &trial.mesh)?;
     behind_itself(job, &trial.mesh)
 }
 
@@ -76,6 +77,18 @@ fn one_by_one(job: &impl Job, trial: &Trial, faces: &[usize]) -> Result<(), Stri
     let none = job.build_face(trial.faces(), &mut lent(&mut buffers));
     hold("safe face that is not there", none, Err(Refusal::NoFace))?;
     hold_buffers("safe faces", &buffers, &wanted)
+}
+
+/// Into empty lists: refused for the vertices, if there are any.
+fn into_nothing(job: &impl Job, mesh: &MeshInfo) -> Result<(), String> {
+    let counts = Counts::of(mesh);
+    let buffer = Buffer::Vertices;
+    let wanted = match counts.lengths()[0] {
+        0 => done(counts),
+        need => Err(Refusal::Room { buffer, need }),
+    };
+    let answer = job.build_into(&mut Mesh::default().buffers());
+    hold("safe build into nothing", answer, wanted)
 }
 
 /// Added twice, as hexx merges a mesh; refused where there are too many

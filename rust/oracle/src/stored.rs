@@ -2,7 +2,7 @@
 
 use crate::MeshInfo;
 use crate::buffers::{Buffers, Counts, Lent};
-use crate::compare::{done, hold, hold_buffers, refused};
+use crate::compare::{done, hold, hold_buffers, no_room, refused, short_of};
 use crate::line::bits;
 use crate::mesh_cases::Merge;
 use crate::ours::{BEYOND, vec3};
@@ -80,11 +80,7 @@ fn one_short(counts: Counts) -> impl Iterator<Item = [usize; 4]> {
     let exact = counts.lengths();
     (0..4)
         .filter(move |&list| exact[list] > 0)
-        .map(move |list| {
-            let mut lengths = exact;
-            lengths[list] -= 1;
-            lengths
-        })
+        .map(move |list| short_of(exact, [0; 4], list)[0])
 }
 
 /// Scale, offset and texture scale.
@@ -142,8 +138,27 @@ fn merge_ours(source: &MeshInfo, from: &Buffers, target: &MeshInfo, to: Lent) ->
     )
 }
 
-/// A merge, also with each list of the target one short of the need, and with
-/// an index of the source that names none of its vertices.
+/// Each list of the target one short of the need, by itself and with all later
+/// ones as short as the target.
+fn short_merges(case: &Merge, from: &Buffers, buffers: &mut Buffers) -> Result<(), String> {
+    let Merge { source, target } = case;
+    let own = Counts::of(target).lengths();
+    let need = Counts::of(target).plus(Counts::of(source)).lengths();
+    for list in (0..4).filter(|&list| need[list] > 0) {
+        let wanted = match own[list] < need[list] {
+            true => no_room(list, need[list]),
+            false => refused(1),
+        };
+        for lengths in short_of(need, own, list) {
+            let short = merge_ours(source, from, target, buffers.cut(lengths));
+            hold("short merge", short, wanted)?;
+        }
+    }
+    Ok(())
+}
+
+/// A merge, also with short lists, and with an index of the source that names
+/// none of its vertices.
 pub fn merge(case: &Merge, random: &mut Random) -> Result<(), String> {
     let Merge { source, target } = case;
     let (own, counts) = (Counts::of(target), Counts::of(source));
@@ -151,12 +166,7 @@ pub fn merge(case: &Merge, random: &mut Random) -> Result<(), String> {
     let from = holding(source, counts, random);
     let mut buffers = holding(target, need, random);
     let mut wanted = buffers.clone();
-    for lengths in one_short(need) {
-        let holds = own.lengths().iter().zip(lengths).all(|(&a, b)| a <= b);
-        let number = if holds { 5 } else { 1 };
-        let short = merge_ours(source, &from, target, buffers.cut(lengths));
-        hold("short merge", short, refused(number))?;
-    }
+    short_merges(case, &from, &mut buffers)?;
     if counts.indices > 0 && counts.vertices < 65_536 {
         let mut astray = from.clone();
         let least = counts.vertices as u32;

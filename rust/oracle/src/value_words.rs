@@ -8,6 +8,7 @@ use crate::job_faults::OUT_OF_RANGE;
 use crate::job_words::Lines;
 use crate::line::bits;
 use crate::mesh_cases::{Cases as MeshCases, Merge, recorded};
+use crate::room::{self, first_short};
 use crate::{MeshInfo, UVOptions};
 use glam::{Vec2, Vec3};
 
@@ -37,8 +38,8 @@ fn counts(mesh: &MeshInfo) -> [u32; 2] {
     [mesh.vertices.len(), mesh.indices.len()].map(|count| count as u32)
 }
 
-fn lengths([vertices, indices]: [u32; 2]) -> [usize; 4] {
-    [3 * vertices, 3 * vertices, 2 * vertices, indices].map(|length| length as usize)
+fn lengths(counts: [u32; 2]) -> [usize; 4] {
+    room::lengths(counts.map(|count| count as usize))
 }
 
 /// Some places more than these in each list.
@@ -72,10 +73,12 @@ fn list_lines(lists: &Lists, known: [usize; 4]) -> Lines {
     lines
 }
 
-/// A number, both counts of what is done, and a digest.
-fn answer(number: u32, counts: [u32; 2], digest: Digest) -> Vec<u32> {
-    let counts = if number == 0 { counts } else { [0; 2] };
-    [vec![number], counts.to_vec(), digest.words().to_vec()].concat()
+/// A number, both counts of what is done, the need, and a digest.
+fn answer([number, need]: [u32; 2], counts: [u32; 2], digest: Digest) -> Vec<u32> {
+    let [vertices, indices] = if number == 0 { counts } else { [0; 2] };
+    let mut words = vec![number, vertices, indices, need];
+    words.extend(digest.words());
+    words
 }
 
 impl Stored {
@@ -100,7 +103,7 @@ impl Stored {
         let mut digest = Digest::default();
         digest.floats(&value.to_array());
         digest.lists(after);
-        lines.push(answer(number, self.counts, digest));
+        lines.push(answer([number, 0], self.counts, digest));
         lines
     }
 
@@ -225,7 +228,8 @@ impl Merging {
         [0, 1].map(|at| self.counts[0][at] + self.counts[1][at])
     }
 
-    fn lines(&self, number: u32, after: &Lists) -> Lines {
+    /// The merge with its number and need, and what it leaves.
+    fn lines(&self, told: [u32; 2], after: &Lists) -> Lines {
         let [source, target] = self.counts;
         let mut lines = vec![source.to_vec()];
         lines.extend(list_lines(&self.source, lengths(source)));
@@ -233,21 +237,32 @@ impl Merging {
         lines.extend(list_lines(&self.target, lengths(target)));
         let mut digest = Digest::default();
         digest.lists(after);
-        lines.push(answer(number, self.need(), digest));
+        lines.push(answer(told, self.need(), digest));
         lines
     }
 
     fn refused(&self, number: u32) -> Lines {
-        self.lines(number, &self.target)
+        self.lines([number, 0], &self.target)
     }
 
-    /// Each list of the target cut below what the merge needs.
-    fn one_short(&self, list: usize) -> Option<Lines> {
-        let length = lengths(self.need())[list].checked_sub(1)?;
+    /// The number and the need that the target's lengths give, if one is short
+    /// of the merge: 1 where one is short of the target's own counts.
+    fn short(&self) -> Option<[u32; 2]> {
+        let (need, lent) = (lengths(self.need()), self.target.lengths());
+        let list = first_short(lent, need)?;
+        let told = [room::number(list), need[list] as u32];
+        let own = first_short(lent, lengths(self.counts[1]));
+        Some(own.map_or(told, |_| [1, 0]))
+    }
+
+    /// These lists of the target cut below what the merge needs.
+    fn one_short(&self, lists: &[usize]) -> Option<Lines> {
         let mut short = self.clone();
-        short.target.0[list].truncate(length);
-        let holds = lengths(self.counts[1])[list] <= length;
-        Some(short.refused(if holds { 5 } else { 1 }))
+        for &list in lists {
+            let length = lengths(self.need())[list].saturating_sub(1);
+            short.target.0[list].truncate(length);
+        }
+        Some(short.lines(short.short()?, &short.target))
     }
 }
 
@@ -257,9 +272,12 @@ pub fn merges(cases: &MeshCases) -> Vec<Lines> {
     let mut all = Vec::new();
     for (at, case) in cases.merges.iter().enumerate() {
         let merging = Merging::new(case);
-        all.push(merging.lines(0, &within(&case.hexx(), merging.target.lengths())));
+        all.push(merging.lines([0; 2], &within(&case.hexx(), merging.target.lengths())));
         if at % 4 == 0 {
-            all.extend(merging.one_short(at / 4 % 4));
+            // Every other time with another list.
+            let (round, list) = (at / 16, at / 4 % 4);
+            let lists = [list, (list + 1 + round / 2 % 3) % 4];
+            all.extend(merging.one_short(&lists[..1 + round % 2]));
         }
     }
     let full = |mesh: &MeshInfo| mesh.vertices.len() > 1 && mesh.indices.len() > 1;
@@ -296,7 +314,7 @@ fn merge_faults(base: &Merging) -> Vec<Lines> {
     all.push(crowded.refused(7));
     astray.source.0[3][last] = 65_535;
     all.push(astray.refused(7));
-    all.extend((0..4).filter_map(|list| base.one_short(list)));
+    all.extend((0..4).filter_map(|list| base.one_short(&[list])));
     all
 }
 

@@ -1,6 +1,6 @@
 //! The kinds of job with their lists, the calls of each, and what holds them to a mesh.
 
-use super::{done, longer, not_empty, refused, shortened, Lengths, Lent, Mesh};
+use super::{done, longer, no_room, not_empty, refused, shortened, Lengths, Lent, Mesh};
 use hosirekar_sys::*;
 use std::fmt::Display;
 use std::ops::Range;
@@ -329,9 +329,13 @@ fn call_faces(
         assert_eq!(answer, counts, "{what}: face {face}");
         let answer = job.face(faces + k, made.front(lengths));
         assert_eq!(answer, refused(6), "{what}: no face");
-        let short = shortened(lengths, exact, k % 4);
-        let answer = job.face(face, made.front(short));
-        assert_eq!(answer, refused(5), "{what}: face {face}, lent {short:?}");
+        let list = k % 4;
+        let short = shortened(lengths, exact, list);
+        let (answer, wanted) = (
+            job.face(face, made.front(short)),
+            no_room(list, exact[list]),
+        );
+        assert_eq!(answer, wanted, "{what}: face {face}, lent {short:?}");
     }
 }
 
@@ -356,13 +360,14 @@ fn hold_refusals(job: &impl Job, faces: usize, exact: Lengths, fresh: &Mesh, wha
         assert_eq!(answer, refused(6), "{what}: no face");
     }
     for list in not_empty(exact) {
+        let wanted = no_room(list, exact[list]);
         for lengths in [exact, longer(exact)] {
             let short = shortened(lengths, exact, list);
             let answer = job.build(made.front(short));
-            assert_eq!(answer, refused(5), "{what}: the build, lent {short:?}");
+            assert_eq!(answer, wanted, "{what}: the build, lent {short:?}");
             for number in [0, faces / 2, faces - 1] {
                 let answer = job.face(number, made.front(short));
-                assert_eq!(answer, refused(5), "{what}: face {number}, lent {short:?}");
+                assert_eq!(answer, wanted, "{what}: face {number}, lent {short:?}");
             }
             for number in [faces, usize::MAX] {
                 let answer = job.face(number, made.front(short));
@@ -408,7 +413,7 @@ pub fn hold_face(
     job: &impl Job,
     face: usize,
     whole: &Mesh,
-    [vertices, indices]: [Range<usize>; 2],
+    places: [Range<usize>; 2],
     what: impl Display,
 ) {
     let exact = whole.lengths();
@@ -416,13 +421,7 @@ pub fn hold_face(
     let mut made = fresh.clone();
     let answer = job.face(face, made.front(exact));
     assert_eq!(answer, done(exact[0] / 3, exact[3]), "{what}: face {face}");
-    let mut wanted = fresh;
-    let points = 3 * vertices.start..3 * vertices.end;
-    let uvs = 2 * vertices.start..2 * vertices.end;
-    wanted.vertices[points.clone()].copy_from_slice(&whole.vertices[points.clone()]);
-    wanted.normals[points.clone()].copy_from_slice(&whole.normals[points]);
-    wanted.uvs[uvs.clone()].copy_from_slice(&whole.uvs[uvs]);
-    wanted.indices[indices.clone()].copy_from_slice(&whole.indices[indices]);
+    let wanted = fresh.with_places(whole, places);
     made.hold(&wanted, format_args!("{what}: face {face} alone"));
 }
 

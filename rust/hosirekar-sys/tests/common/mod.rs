@@ -3,9 +3,12 @@
 
 pub mod faults;
 pub mod jobs;
+pub mod merges;
+pub mod samples;
 
-use hosirekar_sys::{CAnswer, CCounts};
+use hosirekar_sys::{hosirekar_merge, CAnswer, CCounts};
 use std::fmt::Display;
+use std::ops::Range;
 
 /// The next numbers past the range, and those that are none.
 pub const BEYOND: [u32; 5] = [
@@ -36,6 +39,11 @@ pub fn longer(lengths: Lengths) -> Lengths {
 pub fn shortened(mut lengths: Lengths, needed: Lengths, list: usize) -> Lengths {
     lengths[list] = needed[list] - 1;
     lengths
+}
+
+/// The first list that is shorter than it should be.
+pub fn first_short(lengths: Lengths, needed: Lengths) -> Option<usize> {
+    (0..4).find(|list| lengths[*list] < needed[*list])
 }
 
 /// The lists that can be one short.
@@ -125,6 +133,17 @@ impl Mesh {
         self
     }
 
+    /// With another mesh's numbers at some places alone: those of these vertices and indices.
+    pub fn with_places(mut self, of: &Mesh, [vertices, indices]: [Range<usize>; 2]) -> Mesh {
+        let points = 3 * vertices.start..3 * vertices.end;
+        let uvs = 2 * vertices.start..2 * vertices.end;
+        self.vertices[points.clone()].copy_from_slice(&of.vertices[points.clone()]);
+        self.normals[points.clone()].copy_from_slice(&of.normals[points]);
+        self.uvs[uvs.clone()].copy_from_slice(&of.uvs[uvs]);
+        self.indices[indices.clone()].copy_from_slice(&of.indices[indices]);
+        self
+    }
+
     /// The mesh with each of its lists in turn one short.
     pub fn one_short(&self) -> [Mesh; 4] {
         let mut four = [(); 4].map(|()| self.clone());
@@ -180,6 +199,19 @@ pub fn refused(number: u32) -> CAnswer {
     }
 }
 
+/// Refused for room in a list, of which the whole mesh needs so much.
+pub fn no_room(list: usize, need: usize) -> CAnswer {
+    CAnswer {
+        need,
+        ..refused(room_number(list))
+    }
+}
+
+/// The number of a list that is short.
+pub fn room_number(list: usize) -> u32 {
+    51 + list as u32
+}
+
 pub fn done(vertices: usize, indices: usize) -> CAnswer {
     CAnswer {
         vertices,
@@ -188,10 +220,32 @@ pub fn done(vertices: usize, indices: usize) -> CAnswer {
     }
 }
 
-/// Done with these counts, or refused with another number than 0.
+/// Done with these counts, or refused with another number than 0: for room, with what they need.
 pub fn answer(number: u32, counts: CCounts) -> CAnswer {
-    match number {
-        0 => done(counts.vertices, counts.indices),
+    let list = (0..4).find(|list| room_number(*list) == number);
+    match (number, list) {
+        (0, _) => done(counts.vertices, counts.indices),
+        (_, Some(list)) => no_room(list, needs(counts.vertices, counts.indices)[list]),
         _ => refused(number),
     }
+}
+
+pub fn counts(vertices: usize, indices: usize) -> CCounts {
+    CCounts { vertices, indices }
+}
+
+/// Merges a source of these counts into a target.
+pub fn merge(source: CCounts, from: Lent, target: CCounts, onto: Lent) -> CAnswer {
+    hosirekar_merge(
+        source,
+        from.vertices,
+        from.normals,
+        from.uvs,
+        from.indices,
+        target,
+        onto.vertices,
+        onto.normals,
+        onto.uvs,
+        onto.indices,
+    )
 }

@@ -1,7 +1,7 @@
 //! Stored meshes: moved, merged, and their middles.
 
 use crate::common::{
-    done, hold, longer, needs, not_empty, refused, shortened, Lengths, Lent, Mesh,
+    self, done, hold, longer, needs, no_room, not_empty, refused, shortened, Lengths, Lent, Mesh,
 };
 use crate::reading::Record;
 use hosirekar_sys::*;
@@ -115,28 +115,17 @@ impl Merge {
     /// The answer of a merge with so much of each list, and what it has left of the target.
     fn call(&self, given: Lengths, lent: Lengths) -> (CAnswer, Mesh) {
         let (mut from, mut onto) = (self.source.clone(), self.target.clone());
-        let (given, lent) = (from.front(given), onto.front(lent));
-        let answer = hosirekar_merge(
-            self.counts[0],
-            given.vertices,
-            given.normals,
-            given.uvs,
-            given.indices,
-            self.counts[1],
-            lent.vertices,
-            lent.normals,
-            lent.uvs,
-            lent.indices,
-        );
+        let [source, target] = self.counts;
+        let answer = common::merge(source, from.front(given), target, onto.front(lent));
         from.hold(&self.source, "a source");
         (answer, onto)
     }
 
     /// Holds a merge to a refusal that changes nothing.
-    fn refuse(&self, given: Lengths, lent: Lengths, number: u32, what: &str) {
+    fn refuse(&self, given: Lengths, lent: Lengths, wanted: CAnswer, what: &str) {
         let (answer, left) = self.call(given, lent);
         let what = format!("{what}, given {given:?}, lent {lent:?}");
-        assert_eq!(answer, refused(number), "{what}");
+        assert_eq!(answer, wanted, "{what}");
         left.hold(&self.target, what);
     }
 }
@@ -158,11 +147,13 @@ fn merge(record: &mut Record, what: &str) {
         left.hold(&wanted, what);
     }
     for list in not_empty(exact) {
-        merge.refuse(shortened(longer(exact), exact, list), room, 1, what);
-        merge.refuse(exact, shortened(room, need, list), 5, what);
+        let short = shortened(longer(exact), exact, list);
+        merge.refuse(short, room, refused(1), what);
+        let short = shortened(room, need, list);
+        merge.refuse(exact, short, no_room(list, need[list]), what);
     }
     for list in not_empty(own) {
-        merge.refuse(exact, shortened(room, own, list), 1, what);
+        merge.refuse(exact, shortened(room, own, list), refused(1), what);
     }
 }
 

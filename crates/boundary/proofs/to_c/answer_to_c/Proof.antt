@@ -1,4 +1,4 @@
--- `answer_to_c`: the number and the counts. Assumes nothing.
+-- `answer_to_c`: the number, the counts and the need. Assumes nothing.
 use borrow.Author.Needs.{needs}
 use Rattle.boundary.proofs.to_c.answer_to_c.Statement.{statement}
 use Rattle.boundary.proofs.to_c.answer_to_c.Tie as tie
@@ -9,4 +9,5 @@ answer-to-c-spec =
     (tie.spec
     (λ c κs. search needs)
     (λ c κs. search needs)
-    (λ c. rw (c .number-of .ensures, c .before .counts-of .ensures)))
+    (λ c κs. search needs)
+    (λ c. rw (c .need-of .ensures, c .before .number-of .ensures, c .before .before .counts-of .ensures)))
