@@ -8,7 +8,7 @@ use native.Mathlib.Nat.{le-trans, mul-le-mul, le-div-iff-mul-le, div-lt-iff-lt-m
 use native.Mathlib.Numerals.{add-one}
 use native.Mathlib.Omega.{arith}
 use borrow.Author.Tests.{le-leb, lt-leb, leb-true, leb-false, eq-eqb, ne-eqb, eqb-true, eqb-false, ltb-true}
-use lib.Dec.{T, leb, ltb, eqb, lit≤, ltb→lt, nltb→le}
+use lib.Dec.{T, leb, ltb, eqb, lit≤, lit<, ltb→lt, nltb→le}
 use lib.ListN.{length, getD, drop, drop-of-length-le}
 use lib.Seq.{drop-cons}
 use Rattle.face.specs.declared.triangle.Counts.{Counts}
@@ -129,13 +129,25 @@ given-most m false e rest h k = h
 pub limited-most : (c : Counts) → numberOf (limited c) ≤ 4
 limited-most c = given-most 4 (leb (c .vertices .0) 65536) Limit (Done c) (lit≤ tt) (lit≤ tt)
 
--- L1: one below 51 is no refusal for room, and has no need
-room-coded : (b : Buffer) → 51 ≤ roomCode b
-room-coded Vertices = lit≤ tt
-room-coded Normals = lit≤ tt
-room-coded Uvs = lit≤ tt
-room-coded Indices = lit≤ tt
+-- every refusal's number is above 0 and has at most two digits
+room-coded : (b : Buffer) → (51 ≤ roomCode b) × (roomCode b < 100)
+room-coded Vertices = (lit≤ tt, lit< tt)
+room-coded Normals = (lit≤ tt, lit< tt)
+room-coded Uvs = (lit≤ tt, lit< tt)
+room-coded Indices = (lit≤ tt, lit< tt)
 
+pub coded : (e : Refusal) → (1 ≤ code e) × (code e < 100)
+coded Shape = (lit≤ tt, lit< tt)
+coded Range = (lit≤ tt, lit< tt)
+coded Neighbour = (lit≤ tt, lit< tt)
+coded Limit = (lit≤ tt, lit< tt)
+coded (Room b n) = (le-trans (lit≤ tt) (room-coded b .0), room-coded b .1)
+coded NoFace = (lit≤ tt, lit< tt)
+coded Index = (lit≤ tt, lit< tt)
+coded Empty = (lit≤ tt, lit< tt)
+coded Sheet = (lit≤ tt, lit< tt)
+
+-- L1: one below 51 is no refusal for room, and has no need
 pub without-need : (a : Answer) → numberOf a < 51 → needOf a ≡ 0
 without-need (Done c) h = refl
 without-need (Refused e) h = go e h
@@ -145,7 +157,7 @@ without-need (Refused e) h = go e h
     go Range h = refl
     go Neighbour h = refl
     go Limit h = refl
-    go (Room b n) h = absurd (omega (arith, h, room-coded b))
+    go (Room b n) h = absurd (omega (arith, h, room-coded b .0))
     go NoFace h = refl
     go Index h = refl
     go Empty h = refl

@@ -3,34 +3,16 @@ use mathlib.Core.Path.{_≡_, refl}
 use Prim.Native.Nat.{ℕ, _≤_, _<_}
 use native.Mathlib.Omega.{arith}
 use Rattle.face.specs.Triangles.{counts}
-use Rattle.answer.specs.declared.answer.Buffer.the-variants.{Vertices, Normals, Uvs, Indices}
-use Rattle.answer.specs.declared.answer.Refusal.{Refusal}
-use Rattle.answer.specs.declared.answer.Refusal.the-variants.{Shape, Range, Neighbour, Limit, Room, NoFace, Index, Empty, Sheet}
 use Rattle.answer.specs.declared.answer.Answer.{Answer}
 use Rattle.answer.specs.declared.answer.Answer.the-variants.{Done, Refused}
 use Rattle.answer.specs.Answers.{code, after, valueOf}
 use Rattle.answer.proofs.Laws as laws
 use Rattle.boundary.specs.ToC.{answerToC}
 
--- no refusal has the number of a call that is done
-coded : (e : Refusal) → 1 ≤ code e
-coded Shape = omega arith
-coded Range = omega arith
-coded Neighbour = omega arith
-coded Limit = omega arith
-coded (Room Vertices n) = omega arith
-coded (Room Normals n) = omega arith
-coded (Room Uvs n) = omega arith
-coded (Room Indices n) = omega arith
-coded NoFace = omega arith
-coded Index = omega arith
-coded Empty = omega arith
-coded Sheet = omega arith
-
 -- 0: the call is done, with the counts that are told
 pub done : (a : Answer) → answerToC a .number ≡ 0 → a ≡ Done (counts (answerToC a .vertices) (answerToC a .indices))
 done (Done c) z = refl
-done (Refused e) z = absurd (let g : 1 ≤ code e = coded e in let h : code e ≡ 0 = z in omega arith)
+done (Refused e) z = absurd (let g : 1 ≤ code e = laws.coded e .0 in let h : code e ≡ 0 = z in omega arith)
 
 -- any other number: both counts are 0, what is lent is as it was, and a value beside the answer is +0
 pub refused : {A : Type 0} (a : Answer) (old new : A) → 1 ≤ answerToC a .number → (answerToC a .vertices ≡ 0) × (answerToC a .indices ≡ 0) × (after a old new ≡ old)

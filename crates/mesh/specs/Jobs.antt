@@ -1,5 +1,6 @@
 -- A job of any kind: its tests before the limit, and its faces. What the three calls answer and leave, and what is told
--- of its faces without a buffer, is said here once for every kind; R10 to R18 and L1a to L1c are rows of docs/TRACE.md. Definitions only.
+-- of its faces without a buffer, is said here once for every kind; R10 to R18 and L1a to L1c are rows of docs/TRACE.md.
+-- Definitions only.
 use mathlib.Core.Path.{_≡_}
 use Prim.Native.Nat.{ℕ}
 use mathlib.Core.List.{List, [], _∷_}

@@ -13,12 +13,13 @@ use Rattle.face.specs.declared.triangle.Triangle.{Triangle}
 use Rattle.face.specs.declared.triangle.Counts.{Counts}
 use Rattle.face.specs.Triangles.{noTriangle}
 use Rattle.face.proofs.Laws.{Below}
-use Rattle.answer.specs.declared.answer.Buffer.the-variants.{Vertices, Normals, Uvs, Indices}
+use Rattle.answer.specs.declared.answer.Buffer.the-variants.{Vertices}
 use Rattle.answer.specs.declared.answer.Refusal.{Refusal}
-use Rattle.answer.specs.declared.answer.Refusal.the-variants.{Shape, Range, Neighbour, Limit, Room, NoFace, Index, Empty, Sheet}
+use Rattle.answer.specs.declared.answer.Refusal.the-variants.{Room, Sheet}
 use Rattle.answer.specs.declared.answer.Answer.{Answer}
 use Rattle.answer.specs.declared.answer.Answer.the-variants.{Done, Refused}
 use Rattle.answer.specs.Answers.{code, told, given}
+use Rattle.answer.proofs.Laws.{coded}
 use Rattle.placement.specs.declared.options.Choice.{Choice}
 use Rattle.placement.specs.declared.options.Choice.the-variants as option
 use Rattle.placement.specs.Options.{plainOptions, entryAt, optionAt}
@@ -102,22 +103,8 @@ module _ (job : Column) (ps cs : List Float) where
       ))
 
 -- ---- a refusal has at most two digits
-two-digits : (e : Refusal) → code e < 100
-two-digits Shape = omega arith
-two-digits Range = omega arith
-two-digits Neighbour = omega arith
-two-digits Limit = omega arith
-two-digits (Room Vertices n) = omega arith
-two-digits (Room Normals n) = omega arith
-two-digits (Room Uvs n) = omega arith
-two-digits (Room Indices n) = omega arith
-two-digits NoFace = omega arith
-two-digits Index = omega arith
-two-digits Empty = omega arith
-two-digits Sheet = omega arith
-
 refusal-fits : (e : Refusal) → length (refusalText (code e)) ≤ room
-refusal-fits e = omega (arith, length-refusal (code e), count-within 1 (code e) (omega (arith, two-digits e)))
+refusal-fits e = omega (arith, length-refusal (code e), count-within 1 (code e) (omega (arith, coded e .1)))
 
 -- ---- either
 column-most : (job : Column) (ps cs : List Float) → length (columnText job (lists ps cs [] [])) ≤ room

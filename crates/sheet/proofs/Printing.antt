@@ -11,12 +11,11 @@ use lib.ListN.{length, replicate, length-replicate}
 use lib.Ieee.{nan}
 use Rattle.face.specs.declared.triangle.Counts.{Counts}
 use Rattle.face.specs.Vec.{f0}
-use Rattle.answer.specs.declared.answer.Buffer.the-variants.{Vertices}
 use Rattle.answer.specs.declared.answer.Refusal.{Refusal}
-use Rattle.answer.specs.declared.answer.Refusal.the-variants.{Room, Sheet}
+use Rattle.answer.specs.declared.answer.Refusal.the-variants.{Sheet}
 use Rattle.answer.specs.declared.answer.Answer.{Answer}
 use Rattle.answer.specs.declared.answer.Answer.the-variants.{Done, Refused}
-use Rattle.answer.specs.Answers.{Roomy, code, told, given, limited, roomFor}
+use Rattle.answer.specs.Answers.{Roomy, code, limited, roomFor}
 use Rattle.answer.proofs.Laws.{done-limited, roomed-done, room-enough, after-done}
 use Rattle.buffers.specs.Mesh.{Mesh, none, sizeOf, measure, joined}
 use Rattle.buffers.specs.Laying.{Buffers, four, layAll}
@@ -51,10 +50,10 @@ blank = four (replicate 3072 f0) (replicate 3072 f0) (replicate 2048 f0) (replic
 pub blank-roomy : For1024 blank
 blank-roomy = record { vertices = length-replicate 3072 f0; normals = length-replicate 3072 f0; uvs = length-replicate 2048 f0; indices = length-replicate {A = ℕ} 4096 0 }
 
-room-1024 : (c : Counts) → FewIn c → roomFor c 3072 3072 2048 4096 ≡ given (leb (c .vertices .0) 1024) (Room Vertices (told Vertices c)) (Done c)
+room-1024 : (c : Counts) → FewIn c → roomFor c 3072 3072 2048 4096 ≡ printable (Done c)
 room-1024 c f = go (ltb 1024 (c .vertices .0)) (ltb→lt 1024 (c .vertices .0)) (nltb→le 1024 (c .vertices .0))
   where
-    go : (x : Bool) → (T x → 1024 < c .vertices .0) → (T (not x) → c .vertices .0 ≤ 1024) → roomFor c 3072 3072 2048 4096 ≡ given (leb (c .vertices .0) 1024) (Room Vertices (told Vertices c)) (Done c)
+    go : (x : Bool) → (T x → 1024 < c .vertices .0) → (T (not x) → c .vertices .0 ≤ 1024) → roomFor c 3072 3072 2048 4096 ≡ printable (Done c)
     go true y z = let h : 1024 < c .vertices .0 = y tt in rw (lt-leb (3 * c .vertices .0) 3072 (omega arith), lt-leb (c .vertices .0) 1024 h)
     go false y z =
         let h : c .vertices .0 ≤ 1024 = z tt in
