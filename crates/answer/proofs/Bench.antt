@@ -12,7 +12,7 @@ use Rattle.face.specs.declared.triangle.Counts.{Counts}
 use Rattle.answer.specs.declared.answer.Buffer.{Buffer}
 use Rattle.answer.specs.declared.answer.Buffer.the-variants.{Vertices, Normals, Uvs, Indices}
 use Rattle.answer.specs.declared.answer.Refusal.{Refusal}
-use Rattle.answer.specs.declared.answer.Refusal.the-variants.{Shape, Range, Neighbour, Limit, Room, NoFace, Index, Empty, Sheet}
+use Rattle.answer.specs.declared.answer.Refusal.the-variants.{Shape, Range, Neighbour, Limit, Room, NoFace, Index, Empty, Sheet, Triangles, File, Bytes}
 use Rattle.answer.specs.declared.answer.Answer.the-variants.{Done, Refused}
 use Rattle.answer.specs.Answers.{numberOf, countsOf, needOf, valueOf2, valueOf3, after, limited, roomFor}
 use Rattle.answer.specs.Checks.{inRange, namesOption, isNeighbour, cellCount}
@@ -36,11 +36,11 @@ unfolding ofBits neg le
 nan-out-of-range = refl
 
 -- each refusal's number, whatever a short buffer needs
-pub refusal-numbers : (n : ℕ) → map (λ e. numberOf (Refused e)) (Shape ∷ Range ∷ Neighbour ∷ Limit ∷ Room Vertices n ∷ Room Normals n ∷ Room Uvs n ∷ Room Indices n ∷ NoFace ∷ Index ∷ Empty ∷ Sheet ∷ []) ≡ 1 ∷ 2 ∷ 3 ∷ 4 ∷ 51 ∷ 52 ∷ 53 ∷ 54 ∷ 6 ∷ 7 ∷ 8 ∷ 9 ∷ []
+pub refusal-numbers : (n : ℕ) → map (λ e. numberOf (Refused e)) (Shape ∷ Range ∷ Neighbour ∷ Limit ∷ Room Vertices n ∷ Room Normals n ∷ Room Uvs n ∷ Room Indices n ∷ NoFace ∷ Index ∷ Empty ∷ Sheet ∷ Triangles ∷ File ∷ Bytes n ∷ []) ≡ 1 ∷ 2 ∷ 3 ∷ 4 ∷ 51 ∷ 52 ∷ 53 ∷ 54 ∷ 6 ∷ 7 ∷ 8 ∷ 9 ∷ 10 ∷ 11 ∷ 55 ∷ []
 refusal-numbers n = refl
 
 -- a short buffer's need is told; every other answer has none
-pub refusal-needs : (b : Buffer) (n : ℕ) (c : Counts) → map needOf (Done c ∷ map Refused (Shape ∷ Range ∷ Neighbour ∷ Limit ∷ Room b n ∷ NoFace ∷ Index ∷ Empty ∷ Sheet ∷ [])) ≡ 0 ∷ 0 ∷ 0 ∷ 0 ∷ 0 ∷ n ∷ 0 ∷ 0 ∷ 0 ∷ 0 ∷ []
+pub refusal-needs : (b : Buffer) (n : ℕ) (c : Counts) → map needOf (Done c ∷ map Refused (Shape ∷ Range ∷ Neighbour ∷ Limit ∷ Room b n ∷ NoFace ∷ Index ∷ Empty ∷ Sheet ∷ Triangles ∷ File ∷ Bytes n ∷ [])) ≡ 0 ∷ 0 ∷ 0 ∷ 0 ∷ 0 ∷ n ∷ 0 ∷ 0 ∷ 0 ∷ 0 ∷ 0 ∷ 0 ∷ n ∷ []
 refusal-needs b n c = refl
 
 -- 36 vertices and 60 indices: the first short buffer with the whole length that it needs, and none at the exact lengths

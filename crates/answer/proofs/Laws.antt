@@ -13,7 +13,7 @@ use lib.ListN.{length, getD, drop, drop-of-length-le}
 use lib.Seq.{drop-cons}
 use Rattle.face.specs.declared.triangle.Counts.{Counts}
 use Rattle.answer.specs.declared.answer.Refusal.{Refusal}
-use Rattle.answer.specs.declared.answer.Refusal.the-variants.{Shape, Range, Neighbour, Limit, Room, NoFace, Index, Empty, Sheet}
+use Rattle.answer.specs.declared.answer.Refusal.the-variants.{Shape, Range, Neighbour, Limit, Room, NoFace, Index, Empty, Sheet, Triangles, File, Bytes}
 use Rattle.answer.specs.declared.answer.Buffer.{Buffer}
 use Rattle.answer.specs.declared.answer.Buffer.the-variants.{Vertices, Normals, Uvs, Indices}
 use Rattle.answer.specs.declared.answer.Answer.{Answer}
@@ -67,6 +67,10 @@ pub every-at : {A : Type 0} (ok : A → Bool) (xs : List A) (z : A) (i : ℕ) �
 every-at ok [] z i e h = absurd (let g : i < 0 = h in omega arith)
 every-at ok (x ∷ xs) z zero e h = &&-left (ok x) (every ok xs) e
 every-at ok (x ∷ xs) z (suc i) e h = every-at ok xs z i (&&-right (ok x) (every ok xs) e) (let g : suc i < suc (length xs) = h in omega arith)
+
+pub every-so : {A : Type 0} (ok : A → Bool) (xs : List A) (z : A) → ((i : ℕ) → i < length xs → ok (getD xs i z) ≡ true) → every ok xs ≡ true
+every-so ok [] z h = refl
+every-so ok (x ∷ xs) z h = rw (h 0 (omega arith), every-so ok xs z (λ i u. h (suc i) (omega arith)))
 
 -- ---- lengths: so many entries of k numbers each, told by a quotient
 module _ (k a b : ℕ) (p : 0 < k) where
@@ -146,6 +150,9 @@ coded NoFace = (lit≤ tt, lit< tt)
 coded Index = (lit≤ tt, lit< tt)
 coded Empty = (lit≤ tt, lit< tt)
 coded Sheet = (lit≤ tt, lit< tt)
+coded Triangles = (lit≤ tt, lit< tt)
+coded File = (lit≤ tt, lit< tt)
+coded (Bytes n) = (lit≤ tt, lit< tt)
 
 -- L1: one below 51 is no refusal for room, and has no need
 pub without-need : (a : Answer) → numberOf a < 51 → needOf a ≡ 0
@@ -162,6 +169,9 @@ without-need (Refused e) h = go e h
     go Index h = refl
     go Empty h = refl
     go Sheet h = refl
+    go Triangles h = refl
+    go File h = refl
+    go (Bytes n) h = absurd (omega (arith, h))
 
 -- ---- L1: each of the four tests, passed or not
 module _ (b : Buffer) (c : Counts) (l : ℕ) (rest : Answer) where

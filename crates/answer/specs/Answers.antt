@@ -1,4 +1,4 @@
--- Answers and the order of refusals; S4, N4 to R18 and L1a to L1e are rows of docs/TRACE.md. Definitions only.
+-- Answers and the order of refusals; S4, N4 to R18, L1a to L1e, L2b and L2d are rows of docs/TRACE.md. Definitions only.
 use Prim.Native.Nat.{ℕ, _*_, _<_, _≤_}
 use mathlib.Core.Path.{_≡_}
 use mathlib.Core.Logic.{_⊎_}
@@ -12,7 +12,7 @@ use Rattle.face.specs.Triangles.{counts}
 use Rattle.answer.specs.declared.answer.Buffer.{Buffer}
 use Rattle.answer.specs.declared.answer.Buffer.the-variants.{Vertices, Normals, Uvs, Indices}
 use Rattle.answer.specs.declared.answer.Refusal.{Refusal}
-use Rattle.answer.specs.declared.answer.Refusal.the-variants.{Shape, Range, Neighbour, Limit, Room, NoFace, Index, Empty, Sheet}
+use Rattle.answer.specs.declared.answer.Refusal.the-variants.{Shape, Range, Neighbour, Limit, Room, NoFace, Index, Empty, Sheet, Triangles, File, Bytes}
 use Rattle.answer.specs.declared.answer.Answer.{Answer}
 use Rattle.answer.specs.declared.answer.Answer.the-variants.{Done, Refused}
 
@@ -23,7 +23,7 @@ roomCode Normals = 52
 roomCode Uvs = 53
 roomCode Indices = 54
 
--- R1 to R9, L1: the number of each kind
+-- R1 to R9, L1, L2: the number of each kind
 abbrev pub code : Refusal → ℕ
 code Shape = 1
 code Range = 2
@@ -34,8 +34,11 @@ code NoFace = 6
 code Index = 7
 code Empty = 8
 code Sheet = 9
+code Triangles = 10
+code File = 11
+code (Bytes n) = 55
 
--- L1: the numbers that a short buffer needs; every other refusal has none
+-- L1, L2: the numbers that a short buffer needs, and the bytes that a short byte buffer does; every other refusal has none
 abbrev pub need : Refusal → ℕ
 need Shape = 0
 need Range = 0
@@ -46,6 +49,9 @@ need NoFace = 0
 need Index = 0
 need Empty = 0
 need Sheet = 0
+need Triangles = 0
+need File = 0
+need (Bytes n) = n
 
 -- R0, R10: what an answer gives; a refusal's counts are 0 and its other values +0
 abbrev pub numberOf : Answer → ℕ

@@ -1,4 +1,4 @@
--- What a job may carry; N1 to R3 are rows of docs/TRACE.md. Definitions only.
+-- What a job may carry; N1 to R3 and R7 are rows of docs/TRACE.md. Definitions only.
 use Prim.Native.Nat.{ℕ, _*_}
 use mathlib.Core.Bool.{Bool, true, _&&_, _||_}
 use mathlib.Core.List.{List, [], _∷_}
@@ -39,6 +39,10 @@ namesOption k entries = eqb k 255 || ltb k entries
 -- N9: a cell, or 4,294,967,295 for none
 abbrev pub isNeighbour : ℕ → ℕ → Bool
 isNeighbour k cells = eqb k 4294967295 || ltb k cells
+
+-- R7: an index of a mesh with so many vertices
+abbrev pub below : ℕ → ℕ → Bool
+below m x = ltb x m
 
 -- N5
 abbrev pub cellCount : ℕ → Bool

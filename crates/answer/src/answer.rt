@@ -16,7 +16,7 @@ pub enum Buffer {
 }
 
 // Why a call is refused; of the buffers that are too short, the first, and how many numbers the whole
-// mesh needs in it.
+// mesh needs in it; of a byte buffer that is too short, how many bytes the file has.
 pub enum Refusal {
     Shape,
     Range,
@@ -27,6 +27,9 @@ pub enum Refusal {
     Index,
     Empty,
     Sheet,
+    Triangles,
+    File,
+    Bytes(usize),
 }
 
 pub enum Answer {
@@ -58,6 +61,9 @@ fn refusal_code(why: Refusal) -> u32
         Refusal::Index => 7,
         Refusal::Empty => 8,
         Refusal::Sheet => 9,
+        Refusal::Triangles => 10,
+        Refusal::File => 11,
+        Refusal::Bytes(_) => 55,
     }
 }
 
@@ -74,6 +80,9 @@ fn refusal_need(why: Refusal) -> usize
         Refusal::Index => 0,
         Refusal::Empty => 0,
         Refusal::Sheet => 0,
+        Refusal::Triangles => 0,
+        Refusal::File => 0,
+        Refusal::Bytes(bytes) => bytes,
     }
 }
 
@@ -99,7 +108,7 @@ pub fn counts_of(answer: Answer) -> Counts
     }
 }
 
-// How many numbers the buffer needs that an answer names: 0 where it names none.
+// How many numbers or bytes the buffer needs that an answer names: 0 where it names none.
 pub fn need_of(answer: Answer) -> usize
     ensures { λ r. ⌜ r ≡ needOf answer ⌝ }
 {

@@ -1,7 +1,7 @@
 // The tests of what a job carries. What a number of a list stands for is its caller's to say.
 ghost use mathlib.Core.Path.{_≡_};
 ghost use mathlib.Core.Bool.{_&&_};
-ghost use Rattle.answer.specs.Checks.{inRange, inRange2, inRange3, every, allInRange, exactly, namesOption, isNeighbour, cellCount};
+ghost use Rattle.answer.specs.Checks.{inRange, inRange2, inRange3, every, allInRange, exactly, namesOption, isNeighbour, below, cellCount};
 use face::vec::Vec2;
 use face::vec::Vec3;
 
@@ -88,6 +88,28 @@ pub fn is_neighbour(number: u32, cells: usize) -> bool
         return true;
     }
     (number as usize) < cells
+}
+
+// An index, below a count of vertices. A comparison of 16 bits lets the compiler test eight at once.
+fn is_below(count: usize, index: u16) -> bool
+    ensures { λ r. ⌜ r ≡ below count index ⌝ }
+{
+    if count > 65535 {
+        return true;
+    }
+    index < (count as u16)
+}
+
+pub fn all_below(count: usize, indices: &[u16]) -> bool
+    ensures { λ r. ⌜ r ≡ every (below count) (now (indices .entry)) ⌝ }
+{
+    let mut good = true;
+    let mut i = 0;
+    while i < indices.len() {
+        good = still(good, is_below(count, indices[i]));
+        i += 1;
+    }
+    good
 }
 
 pub fn all_name_options(numbers: &[u8], entries: usize) -> bool

@@ -1,4 +1,4 @@
--- Answers as a caller from C is told them; R10 and L1e are rows of docs/TRACE.md. Definitions only.
+-- Answers as a caller from C is told them; R10, L1e and L2g are rows of docs/TRACE.md. Definitions only.
 use Rattle.face.specs.declared.vec.Vec2.{Vec2}
 use Rattle.face.specs.declared.vec.Vec3.{Vec3}
 use Rattle.answer.specs.declared.answer.Answer.{Answer}
@@ -7,6 +7,7 @@ use Rattle.mesh.specs.declared.stored.CentroidAnswer.{CentroidAnswer}
 use Rattle.mesh.specs.declared.stored.UvCentroidAnswer.{UvCentroidAnswer}
 use Rattle.mesh.specs.declared.windows.Faces.{Faces}
 use Rattle.mesh.specs.declared.windows.Window.{Window}
+use Rattle.stl_writing.specs.declared.FileAnswer.{FileAnswer}
 use Rattle.boundary.specs.declared.from_c.CVec2.{CVec2}
 use Rattle.boundary.specs.declared.from_c.CVec3.{CVec3}
 use Rattle.boundary.specs.declared.to_c.CAnswer.{CAnswer}
@@ -14,6 +15,7 @@ use Rattle.boundary.specs.declared.to_c.CCentroid.{CCentroid}
 use Rattle.boundary.specs.declared.to_c.CUvCentroid.{CUvCentroid}
 use Rattle.boundary.specs.declared.to_c.CFaces.{CFaces}
 use Rattle.boundary.specs.declared.to_c.CWindow.{CWindow}
+use Rattle.boundary.specs.declared.to_c.CFile.{CFile}
 
 -- the number, the counts and the need; the spare number is 0
 abbrev pub answerToC : Answer → CAnswer
@@ -45,3 +47,7 @@ windowToC t =
       vertices = t .size .vertices .0;
       indices = t .size .indices .0;
     }
+
+-- what is told of a file; its length is 0 already where the answer is a refusal
+abbrev pub fileToC : FileAnswer → CFile
+fileToC t = record { answer = answerToC (t .answer); bytes = t .bytes }

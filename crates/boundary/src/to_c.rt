@@ -1,7 +1,7 @@
 // What a caller is told: a number, 0 or that of a refusal, the counts, and the need of a buffer that is
 // short. The spare number is 0.
 ghost use mathlib.Core.Path.{_≡_};
-ghost use Rattle.boundary.specs.ToC.{answerToC, pointToC, point3ToC, centroidToC, uvCentroidToC, facesToC, windowToC};
+ghost use Rattle.boundary.specs.ToC.{answerToC, pointToC, point3ToC, centroidToC, uvCentroidToC, facesToC, windowToC, fileToC};
 use crate::from_c::CVec2;
 use crate::from_c::CVec3;
 use answer::answer::Answer;
@@ -11,6 +11,7 @@ use mesh::stored::CentroidAnswer;
 use mesh::stored::UvCentroidAnswer;
 use mesh::windows::Faces;
 use mesh::windows::Window;
+use stl_writing::FileAnswer;
 
 #[repr(C)]
 pub struct CAnswer {
@@ -46,6 +47,12 @@ pub struct CWindow {
     pub first_index: usize,
     pub vertices: usize,
     pub indices: usize,
+}
+
+#[repr(C)]
+pub struct CFile {
+    pub answer: CAnswer,
+    pub bytes: usize,
 }
 
 pub fn answer_to_c(answer: Answer) -> CAnswer
@@ -123,5 +130,15 @@ pub fn window_to_c(told: Window) -> CWindow
         first_index: start.indices.0,
         vertices: size.vertices.0,
         indices: size.indices.0,
+    }
+}
+
+pub fn file_to_c(told: FileAnswer) -> CFile
+    ensures { λ r. ⌜ r ≡ fileToC told ⌝ }
+{
+    let inner = told.answer;
+    CFile {
+        answer: answer_to_c(inner),
+        bytes: told.bytes,
     }
 }

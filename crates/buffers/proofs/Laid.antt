@@ -3,7 +3,7 @@ use mathlib.Core.Path.{_≡_, refl, sym, ap, ap₂, _∙_}
 use mathlib.Core.Logic.{_⊎_, inl, inr, ⊎-elim}
 use mathlib.Core.List.{List, [], _∷_, _++_, map, append-nil, append-assoc}
 use Prim.Native.Nat.{ℕ, zero, suc, _+_, _*_, _<_, _≤_}
-use native.Mathlib.Nat.{add-suc, suc-add, add-zero}
+use native.Mathlib.Nat.{add-suc, suc-add, add-zero, zero-add}
 use native.Mathlib.Numerals.{add-one, towards-suc}
 use native.Mathlib.Omega.{arith}
 use lib.ListN.{length, set, getD, length-append, length-set, List·getD-append}
@@ -170,24 +170,36 @@ module _ {A : Type 0} (g h : ℕ → List A) where
   pub laying-two-done : (m : ℕ) (l : List A) (at at′ k : ℕ) (now : List A) → LayingTwo m l at at′ k now → m ≤ k → now ≡ laid (laid l at (chain g m)) at′ (chain h m)
   laying-two-done m l at at′ k now y u = let e : k ≡ m = omega (arith, y .0) in y .2 ∙ rw e
 
--- ---- a loop that lays f of each element of a list, one a turn
-module _ {A B : Type 0} (f : B → A) (xs : List B) (z : B) where
-  abbrev pub Copied : List A → ℕ → ℕ → List A → Type 0
-  Copied l at k now = (k ≤ length xs) × (length now ≡ length l) × (now ≡ laid l at (each (λ j. f (getD xs j z)) k))
+-- ---- a loop that lays one element a turn
+module _ {A : Type 0} (g : ℕ → A) where
+  abbrev pub Stored : ℕ → List A → ℕ → ℕ → List A → Type 0
+  Stored m l at k now = (k ≤ m) × (length now ≡ length l) × (now ≡ laid l at (each g k))
 
-  one-more : (l : List A) (at k : ℕ) → set (laid l at (each (λ j. f (getD xs j z)) k)) (at + k) (f (getD xs k z)) ≡ laid l at (each (λ j. f (getD xs j z)) (k + 1))
+  one-more : (l : List A) (at k : ℕ) → set (laid l at (each g k)) (at + k) (g k) ≡ laid l at (each g (k + 1))
   one-more l at k =
-      let g : ℕ → A = λ j. f (getD xs j z) in
       ap (λ (p : ℕ). set (laid l at (each g k)) (at + p) (g k)) (sym (length-each g k))
       ∙ sym (laid-one (laid l at (each g k)) (at + length (each g k)) (g k))
       ∙ laid-append l at (each g k) (g k ∷ [])
       ∙ ap (λ (p : ℕ). laid l at (each g p)) (sym (add-one k))
 
+  pub stored-more : (m : ℕ) (l : List A) (at k : ℕ) (now : List A) → Stored m l at k now → k < m → Stored m l at (k + 1) (set now (at + k) (g k))
+  stored-more m l at k now y u =
+      (omega arith, length-set now (at + k) (g k) ∙ y .1, ap (λ (b : List A). set b (at + k) (g k)) (y .2) ∙ one-more l at k)
+
+  -- the same from the buffer's start
+  pub stored-next : (m : ℕ) (l : List A) (k : ℕ) (now : List A) → Stored m l 0 k now → k < m → Stored m l 0 (k + 1) (set now k (g k))
+  stored-next m l k now y u = rw (zero-add k) at (stored-more m l 0 k now y u)
+
+  pub stored-all : (m : ℕ) (l : List A) (at k : ℕ) (now : List A) → Stored m l at k now → m ≤ k → now ≡ laid l at (each g m)
+  stored-all m l at k now y u = let e : k ≡ m = omega (arith, y .0) in y .2 ∙ rw e
+
+-- f of each element of a list
+module _ {A B : Type 0} (f : B → A) (xs : List B) (z : B) where
+  abbrev pub Copied : List A → ℕ → ℕ → List A → Type 0
+  Copied = Stored (λ j. f (getD xs j z)) (length xs)
+
   pub copied-more : (l : List A) (at k : ℕ) (now : List A) → Copied l at k now → k < length xs → Copied l at (k + 1) (set now (at + k) (f (getD xs k z)))
-  copied-more l at k now y u =
-      (omega arith, length-set now (at + k) (f (getD xs k z)) ∙ y .1, ap (λ (b : List A). set b (at + k) (f (getD xs k z))) (y .2) ∙ one-more l at k)
+  copied-more = stored-more (λ j. f (getD xs j z)) (length xs)
 
   pub copied-all : (l : List A) (at k : ℕ) (now : List A) → Copied l at k now → length xs ≤ k → now ≡ laid l at (map f xs)
-  copied-all l at k now y u =
-      let e : k ≡ length xs = omega (arith, y .0) in
-      y .2 ∙ ap (laid l at) (ap (each (λ j. f (getD xs j z))) e ∙ each-map f xs z (length xs) refl)
+  copied-all l at k now y u = stored-all (λ j. f (getD xs j z)) (length xs) l at k now y u ∙ ap (laid l at) (each-map f xs z (length xs) refl)

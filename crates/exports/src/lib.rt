@@ -8,5 +8,6 @@ pub mod maps;
 pub mod merging;
 pub mod numbers;
 pub mod plane;
+pub mod stl;
 pub mod stored;
 pub mod texture;

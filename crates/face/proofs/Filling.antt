@@ -10,7 +10,7 @@ use lib.ListN.{length, getD, set, take, drop, length-append, drop-of-length-le, 
 use lib.Seq.{getD-append-add, drop-cons, set-at, append-snoc, take-suc, take-all}
 use lib.IntN.{pos}
 use lib.Ieee.{Float, binary32, ofInt, ofBits}
-use Rattle.face.specs.Lists.{each}
+use Rattle.face.specs.Lists.{each, chain}
 use Rattle.face.specs.Vec.{middle}
 
 module _ {A : Type 0} where
@@ -35,6 +35,11 @@ module _ {A : Type 0} where
   pub each-same : (g h : ℕ → A) (n : ℕ) → ((v : ℕ) → v < n → g v ≡ h v) → each g n ≡ each h n
   each-same g h zero e = refl
   each-same g h (suc n) e = ap₂ (λ (l : List A) (x : A). l ++ (x ∷ [])) (each-same g h n (λ v l. e v (omega arith))) (e n (omega arith))
+
+  -- the same of lists, end to end
+  pub chain-same : (g h : ℕ → List A) (n : ℕ) → ((v : ℕ) → v < n → g v ≡ h v) → chain g n ≡ chain h n
+  chain-same g h zero e = refl
+  chain-same g h (suc n) e = ap₂ (λ (l r : List A). l ++ r) (chain-same g h n (λ v l. e v (omega arith))) (e n (omega arith))
 
   pub each-at : (g : ℕ → A) (n v : ℕ) (d : A) → v < n → getD (each g n) v d ≡ g v
   each-at g zero v d h = absurd (let x : v < 0 = h in omega arith)

@@ -12,14 +12,14 @@ use Rattle.answer.specs.declared.answer.Refusal.the-variants.{Shape, Index}
 use Rattle.answer.specs.declared.answer.Answer.{Answer}
 use Rattle.answer.specs.declared.answer.Answer.the-variants.{Done, Refused}
 use Rattle.answer.specs.Answers.{Roomy, given, limited, roomed}
-use Rattle.answer.specs.Checks.{every}
+use Rattle.answer.specs.Checks.{every, below}
 use Rattle.answer.proofs.Laws.{every-at, given-done, done-limited, roomed-done}
 use Rattle.buffers.specs.Mesh.{also}
 use Rattle.buffers.specs.Laying.{Buffers}
 use Rattle.buffers.proofs.Rooms.{both}
 use Rattle.mesh.specs.Stored.{holdsCounts}
 use Rattle.mesh.proofs.Moving.{holds-room}
-use Rattle.merge.specs.Merge.{below, mergeTested, mergeAnswer}
+use Rattle.merge.specs.Merge.{mergeTested, mergeAnswer}
 
 pub record Merge (s : Counts) (sv sn st : ℕ) (si : List ℕ) (t : Counts) (v n u i : ℕ) : Type 0 where
   pub source : Roomy s sv sn st (length si)

@@ -1,22 +1,17 @@
 -- One mesh merged into another; M4, R13, L1a and L1b are rows of docs/TRACE.md. Definitions only.
 use mathlib.Core.Path.{_≡_}
 use Prim.Native.Nat.{ℕ, _+_, _*_, _≤_}
-use mathlib.Core.Bool.{Bool, true, _&&_}
+use mathlib.Core.Bool.{true, _&&_}
 use mathlib.Core.List.{List, map}
 use lib.ListN.{length, take}
-use lib.Dec.{ltb}
 use Rattle.face.specs.declared.triangle.Counts.{Counts}
 use Rattle.answer.specs.declared.answer.Refusal.the-variants.{Shape, Index}
 use Rattle.answer.specs.declared.answer.Answer.{Answer}
 use Rattle.answer.specs.Answers.{given, limited, roomed, after}
-use Rattle.answer.specs.Checks.{every}
+use Rattle.answer.specs.Checks.{every, below}
 use Rattle.buffers.specs.Mesh.{also}
 use Rattle.buffers.specs.Laying.{Buffers, four, laid}
 use Rattle.mesh.specs.Stored.{holdsCounts}
-
--- R7
-abbrev pub below : ℕ → ℕ → Bool
-below m x = ltb x m
 
 -- R13: 1, 7, 4, then 51 to 54, from the lengths of the lists and the source's indices
 abbrev pub mergeTested : Counts → ℕ → ℕ → ℕ → List ℕ → Counts → ℕ → ℕ → ℕ → ℕ → Answer

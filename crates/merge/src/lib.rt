@@ -4,37 +4,16 @@ ghost use mathlib.Core.Path.{_≡_};
 ghost use mathlib.Core.List.{map};
 ghost use Prim.Native.Nat.{ℕ, _+_, _*_, _≤_, _<_, _^_};
 ghost use lib.ListN.{length, getD};
-ghost use Rattle.answer.specs.Checks.{every};
 ghost use Rattle.answer.specs.declared.answer.Answer.the-variants.{Done};
 ghost use Rattle.buffers.specs.Mesh.{also};
 ghost use Rattle.buffers.specs.Laying.{laid};
 ghost use Rattle.buffers.specs.Lent.{lending, entering, become};
-ghost use Rattle.merge.specs.Merge.{below, mergeAnswer, mergeTested, appended, merged};
+ghost use Rattle.merge.specs.Merge.{mergeAnswer, mergeTested, appended, merged};
 use answer::answer::Answer;
 use answer::answer::Refusal;
 use face::triangle::Counts;
 use face::triangle::IndexPlace;
 use face::triangle::VertexNumber;
-
-fn wide(x: u16) -> usize
-    ensures { λ r. ⌜ r ≡ x ⌝ }
-{
-    x as usize
-}
-
-fn all_below(numbers: &[u16], limit: usize) -> bool
-    ensures { λ r. ⌜ r ≡ every (below limit) (now (numbers .entry)) ⌝ }
-{
-    let mut k = 0;
-    while k < numbers.len() {
-        if wide(numbers[k]) < limit {
-            k += 1;
-        } else {
-            return false;
-        }
-    }
-    true
-}
 
 // The answer of a merge. The lists are known to hold both meshes before a sum is formed, so none wraps.
 fn answer_of(
@@ -59,7 +38,7 @@ fn answer_of(
         return Answer::Refused(Refusal::Shape);
     }
     let n = source.indices.0;
-    if all_below(&sindices[..n], source.vertices.0) {
+    if answer::check::all_below(source.vertices.0, &sindices[..n]) {
         let counts = Counts {
             vertices: VertexNumber(target.vertices.0 + source.vertices.0),
             indices: IndexPlace(target.indices.0 + n),

@@ -32,6 +32,9 @@ use Rattle.mesh.proofs as mesh
 use Rattle.plane_builder.proofs as plane_builder
 use Rattle.cheap_column.proofs as cheap_column
 use Rattle.merge.proofs as merge
+use Rattle.stl.proofs as stl
+use Rattle.stl_writing.proofs as stl_writing
+use Rattle.stl_reading.proofs as stl_reading
 use Rattle.column.proofs as column
 use Rattle.boundary.proofs as boundary
 use Rattle.column_builder.proofs as column_builder
@@ -177,6 +180,12 @@ patterns-pattern κs a x y v w p q = (determined p q, refl)
 pub patterns-digit-value : Fixes patterns.digit_value.ended patterns.digit_value.Reads.Learnt
 patterns-digit-value κs a x y v w p q = (determined p q, refl)
 
+pub patterns-bytes-of : Fixes patterns.bytes_of.ended patterns.bytes_of.Reads.Learnt
+patterns-bytes-of κs a x y v w p q = (determined p q, refl)
+
+pub patterns-of-bytes : Fixes patterns.of_bytes.ended patterns.of_bytes.Reads.Learnt
+patterns-of-bytes κs a x y v w p q = (determined p q, refl)
+
 -- ---- insetting
 pub insetting-inset-quad : Fixes insetting.inset_quad.ended insetting.inset_quad.Reads.Learnt
 insetting-inset-quad κs a x y v w p q = (determined p q, refl)
@@ -226,6 +235,9 @@ answer-check-is-neighbour κs a x y v w p q = (determined p q, refl)
 
 pub answer-check-all-name-options : Fixes answer.check.all_name_options.ended answer.check.all_name_options.Reads.Learnt
 answer-check-all-name-options κs a x y v w p q = (determined p q, refl)
+
+pub answer-check-all-below : Fixes answer.check.all_below.ended answer.check.all_below.Reads.Learnt
+answer-check-all-below κs a x y v w p q = (determined p q, refl)
 
 pub answer-check-all-neighbours : Fixes answer.check.all_neighbours.ended answer.check.all_neighbours.Reads.Learnt
 answer-check-all-neighbours κs a x y v w p q = (determined p q, refl)
@@ -377,6 +389,18 @@ cheap-column-face κs a x y v w p q = let e = determined (p .1) (q .1) in (deter
 pub merge-merge : Fixes merge.merge.ended merge.merge.Reads.Learnt
 merge-merge κs a x y v w p q = let e = determined (p .1) (q .1) in (determined (p .0) (q .0), λ i. (tt, (tt, (tt, (tt, (tt, (tt, (e i .vertices, (e i .normals, (e i .uvs, (e i .indices, tt)))))))))))
 
+-- ---- stl
+pub stl-file-length : Fixes stl.file_length.ended stl.file_length.Reads.Learnt
+stl-file-length κs a x y v w p q = (determined p q, refl)
+
+-- ---- stl_writing
+pub stl-writing-write : Fixes stl_writing.write.ended stl_writing.write.Reads.Learnt
+stl-writing-write κs a x y v w p q = let e = determined (p .1) (q .1) in (determined (p .0) (q .0), λ i. (tt, (tt, (tt, (tt, (tt, (e i, tt)))))))
+
+-- ---- stl_reading
+pub stl-reading-read : Fixes stl_reading.read.ended stl_reading.read.Reads.Learnt
+stl-reading-read κs a x y v w p q = let e = determined (p .1) (q .1) in (determined (p .0) (q .0), λ i. (tt, (e i .vertices, (e i .normals, (e i .uvs, (e i .indices, tt))))))
+
 -- ---- column
 pub column-parts-of : Fixes column.parts_of.ended column.parts_of.Reads.Learnt
 column-parts-of κs a x y v w p q = (determined p q, refl)
@@ -489,6 +513,9 @@ boundary-jobs-is-fringe κs a x y v w p q = (determined p q, refl)
 
 pub boundary-jobs-heightmap-of : Fixes boundary.jobs.heightmap_of.ended boundary.jobs.heightmap_of.Reads.Learnt
 boundary-jobs-heightmap-of κs a x y v w p q = (determined p q, refl)
+
+pub boundary-to-c-file-to-c : Fixes boundary.to_c.file_to_c.ended boundary.to_c.file_to_c.Reads.Learnt
+boundary-to-c-file-to-c κs a x y v w p q = (determined p q, refl)
 
 -- ---- column_builder
 pub column-builder-plan : Fixes column_builder.plan.ended column_builder.plan.Reads.Learnt
@@ -695,6 +722,12 @@ exports-plane-hosirekar-plane-build κs a x y v w p q = let e = determined (p .1
 
 pub exports-plane-hosirekar-plane-face : Fixes exports.plane.hosirekar_plane_face.ended exports.plane.hosirekar_plane_face.Reads.Learnt
 exports-plane-hosirekar-plane-face κs a x y v w p q = let e = determined (p .1) (q .1) in (determined (p .0) (q .0), λ i. (tt, (tt, (tt, (tt, (tt, (e i .vertices, (e i .normals, (e i .uvs, (e i .indices, tt))))))))))
+
+pub exports-stl-hosirekar-stl-write : Fixes exports.stl.hosirekar_stl_write.ended exports.stl.hosirekar_stl_write.Reads.Learnt
+exports-stl-hosirekar-stl-write κs a x y v w p q = let e = determined (p .1) (q .1) in (determined (p .0) (q .0), λ i. (tt, (tt, (tt, (tt, (tt, (e i, tt)))))))
+
+pub exports-stl-hosirekar-stl-read : Fixes exports.stl.hosirekar_stl_read.ended exports.stl.hosirekar_stl_read.Reads.Learnt
+exports-stl-hosirekar-stl-read κs a x y v w p q = let e = determined (p .1) (q .1) in (determined (p .0) (q .0), λ i. (tt, (e i .vertices, (e i .normals, (e i .uvs, (e i .indices, tt))))))
 
 pub exports-stored-hosirekar-scale : Fixes exports.stored.hosirekar_scale.ended exports.stored.hosirekar_scale.Reads.Learnt
 exports-stored-hosirekar-scale κs a x y v w p q = let e = determined (p .1) (q .1) in (determined (p .0) (q .0), λ i. (tt, (tt, (e i .vertices, (tt, (tt, (tt, tt)))))))

@@ -1,19 +1,15 @@
 -- A mesh's text speaks of the places that its counts reach alone. Assumes nothing.
-use mathlib.Core.Path.{_≡_, refl, ap, ap₂}
+use mathlib.Core.Path.{_≡_, ap}
 use mathlib.Core.List.{List, [], _∷_, _++_}
-use Prim.Native.Nat.{ℕ, zero, suc, _*_, _<_}
-use native.Mathlib.Omega.{arith}
+use Prim.Native.Nat.{ℕ, _*_, _<_}
 use lib.ListN.{getD}
 use lib.Ieee.{Float, nan}
-use Rattle.face.specs.Lists.{chain}
+use Rattle.face.proofs.Filling.{chain-same}
 use Rattle.face.specs.declared.triangle.Counts.{Counts}
 use Rattle.buffers.specs.Laying.{Buffers}
 use Rattle.sheet.specs.Digits.{hexDigits, decimal, gap}
-use Rattle.sheet.specs.Meshes.{bitsOf, floatWord, indexWord, floatLines, indexLines, meshText}
-
-pub chain-alike : {A : Type 0} (f g : ℕ → List A) (n : ℕ) → ((k : ℕ) → k < n → f k ≡ g k) → chain f n ≡ chain g n
-chain-alike f g zero h = refl
-chain-alike f g (suc n) h = ap₂ (λ x y. x ++ y) (chain-alike f g n (λ k u. h k (omega arith))) (h n (omega arith))
+use Rattle.patterns.specs.Patterns.{bitsOf}
+use Rattle.sheet.specs.Meshes.{floatWord, indexWord, floatLines, indexLines, meshText}
 
 -- two lists agree at the first n places
 abbrev pub Alike : {A : Type 0} → A → ℕ → List A → List A → Type 0
@@ -21,11 +17,11 @@ Alike d n xs ys = (k : ℕ) → k < n → getD xs k d ≡ getD ys k d
 
 float-lines-alike : (w n : ℕ) (xs ys : List Float) → Alike nan n xs ys → floatLines xs w n ≡ floatLines ys w n
 unfolding floatLines
-float-lines-alike w n xs ys h = chain-alike (floatWord xs w) (floatWord ys w) n (λ k u. ap (λ (x : Float). hexDigits (bitsOf x) ++ (gap w k ∷ [])) (h k u))
+float-lines-alike w n xs ys h = chain-same (floatWord xs w) (floatWord ys w) n (λ k u. ap (λ (x : Float). hexDigits (bitsOf x) ++ (gap w k ∷ [])) (h k u))
 
 index-lines-alike : (n : ℕ) (xs ys : List ℕ) → Alike 0 n xs ys → indexLines xs n ≡ indexLines ys n
 unfolding indexLines
-index-lines-alike n xs ys h = chain-alike (indexWord xs) (indexWord ys) n (λ k u. ap (λ (x : ℕ). decimal x ++ (gap 3 k ∷ [])) (h k u))
+index-lines-alike n xs ys h = chain-same (indexWord xs) (indexWord ys) n (λ k u. ap (λ (x : ℕ). decimal x ++ (gap 3 k ∷ [])) (h k u))
 
 pub record AlikeTo (c : Counts) (B C : Buffers) : Type 0 where
   pub vertices : Alike nan (3 * c .vertices .0) (B .vertices) (C .vertices)

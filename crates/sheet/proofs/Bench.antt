@@ -17,7 +17,8 @@ use Rattle.patterns.specs.Digits.{digitValue}
 use Rattle.sheet.specs.Digits.{bytes, hexDigits, decimal, digits, digitCount, divisions}
 use Rattle.sheet.specs.Sheets.{numbersText, sheetText, Lawful}
 use Rattle.sheet.specs.Readers.{markOf, wordOf, digitAt, hexFrom, decimalFrom, decimalOf, countOf, sectionOf, numbersFrom, numbersOf, blockOf, headOf, sheetOf, reading, readAs}
-use Rattle.sheet.specs.Meshes.{bitsOf, floatLines, indexLines, meshText, refusalText}
+use Rattle.patterns.specs.Patterns.{bitsOf}
+use Rattle.sheet.specs.Meshes.{floatLines, indexLines, meshText, refusalText}
 use Rattle.sheet.specs.Answering.{columnOf, listsOf, columnText, readingText, answerText}
 use Rattle.sheet.proofs.Exact.{complete}
 

@@ -10,13 +10,13 @@ use lib.Dec.{T, ltb, ltb→lt, nltb→le, leb}
 use lib.ListN.{length, getD, take, drop, length-append, List·getD-append}
 use lib.Seq.{take-append-seam, length-take-le}
 use Rattle.face.specs.Lists.{chain}
+use Rattle.face.proofs.Filling.{chain-same}
 use Rattle.face.specs.declared.triangle.Counts.{Counts}
 use Rattle.buffers.specs.Laying.{Buffers}
 use Rattle.patterns.specs.Digits.{digitValue}
 use Rattle.sheet.specs.Digits.{digit, digits, divisions, digitCount, hexDigits, decimal, spelt, gap}
 use Rattle.sheet.specs.Meshes.{indexWord, indexLines, meshText, refusalText, Written}
 use Rattle.sheet.specs.Answering.{answerText, Answered}
-use Rattle.sheet.proofs.Alike.{chain-alike}
 use Rattle.sheet.proofs.Formats.{value-of-digit}
 use Rattle.sheet.proofs.Numerals.{length-digits, count-within, count-most}
 use Rattle.sheet.proofs.Rooms.{length-index, length-mesh, length-refusal}
@@ -92,7 +92,7 @@ by-lines word w (suc m) =
     let f : ℕ → List ℕ = λ k. word k ++ (gap w k ∷ []) in
     rw (mul-suc w m)
     (chain-split f (w * m) w
-    ∙ ap₂ (λ (x y : List ℕ). x ++ y) (by-lines word w m) (chain-alike (λ r. f (w * m + r)) (λ r. word (w * m + r) ++ (gap w r ∷ [])) w (λ r u. rw (mul-add-mod-self-left w m r))))
+    ∙ ap₂ (λ (x y : List ℕ). x ++ y) (by-lines word w m) (chain-same (λ r. f (w * m + r)) (λ r. word (w * m + r) ++ (gap w r ∷ [])) w (λ r u. rw (mul-add-mod-self-left w m r))))
 
 -- ---- how long a text is
 -- indices of so many digits at most, each with what follows it

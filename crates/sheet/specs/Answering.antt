@@ -3,7 +3,8 @@ use Prim.Native.Nat.{ℕ, _+_, _*_}
 use mathlib.Core.Bool.{Bool, cond}
 use mathlib.Core.List.{List, [], map}
 use lib.Dec.{leb, ltb}
-use lib.Ieee.{Float, binary32, ofBits}
+use lib.Ieee.{Float}
+use Rattle.patterns.specs.Patterns.{floatOf}
 use Rattle.face.specs.Lists.{each}
 use Rattle.face.specs.Vec.{zero2}
 use Rattle.answer.specs.declared.answer.Buffer.the-variants.{Vertices}
@@ -31,7 +32,7 @@ use Rattle.sheet.specs.Meshes.{meshText, refusalText, TextWritten}
 -- ---- the column of a sheet
 -- P2: the numbers of patterns; every NaN's is the one NaN, which is out of range
 abbrev pub floats : List ℕ → List Float
-floats = map (ofBits binary32)
+floats = map floatOf
 
 -- P5: the default option, where there is a face at all
 abbrev pub plainIf : Bool → Choice
@@ -47,7 +48,7 @@ unmoved = record { scale = choice.Absent; turn = turn.Absent; offset = choice.Ab
 abbrev pub columnOf : Sheet → Column
 columnOf s =
     record {
-      height = ofBits binary32 (s .height);
+      height = floatOf (s .height);
       subdivisions = subdivisions.Of (s .subdivisions);
       sides = sidesOf (s .sides);
       top = plainIf (s .caps);

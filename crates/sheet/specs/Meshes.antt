@@ -5,7 +5,8 @@ use mathlib.Core.Bool.{Bool, true, _&&_, cond}
 use mathlib.Core.List.{List, [], _∷_, _++_}
 use lib.ListN.{length, getD, drop}
 use lib.Dec.{leb, eqb}
-use lib.Ieee.{Float, nan, isNan, toBits, binary32}
+use lib.Ieee.{Float, nan}
+use Rattle.patterns.specs.Patterns.{bitsOf}
 use Rattle.face.specs.declared.triangle.Counts.{Counts}
 use Rattle.face.specs.Lists.{chain}
 use Rattle.buffers.specs.Laying.{Buffers}
@@ -25,10 +26,6 @@ indicesWord = bytes "indices "
 
 abbrev pub refusedWord : List ℕ
 refusedWord = bytes "refused "
-
--- the pattern of a number, the same for every NaN
-abbrev pub bitsOf : Float → ℕ
-bitsOf x = cond (isNan x) 0x7fc0_0000 (toBits binary32 x)
 
 -- a number with what follows it
 abbrev pub floatWord : List Float → ℕ → ℕ → List ℕ

@@ -21,7 +21,7 @@ fn put_float(out: &mut [u8], at: usize, numbers: &[f32], width: usize, k: usize)
     requires { ⌜ (0 < width) × (k < length (now numbers)) × RoomFor out at (floatWord (now numbers) width k) ⌝ }
     ensures { λ r. ⌜ Puts out at (floatWord (now (numbers .entry)) width k) r ⌝ }
 {
-    let a = writing_numbers::put_hex(out, at, writing_numbers::bits_of(numbers[k]));
+    let a = writing_numbers::put_hex(out, at, patterns::pattern(numbers[k]));
     writing_numbers::put_byte(out, a, gap(width, k))
 }
 

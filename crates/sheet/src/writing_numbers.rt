@@ -7,16 +7,8 @@ ghost use lib.ListN.{length};
 ghost use Rattle.buffers.specs.Laying.{laid};
 ghost use Rattle.sheet.specs.Digits.{digits, hexDigits, decimal};
 ghost use Rattle.sheet.specs.Lent.{Puts, RoomFor};
-ghost use Rattle.sheet.specs.Meshes.{bitsOf};
 use crate::digits::digit;
 use crate::digits::digit_count;
-
-// The pattern of a number.
-pub(crate) fn bits_of(x: f32) -> u32
-    ensures { λ r. ⌜ r ≡ bitsOf x ⌝ }
-{
-    patterns::pattern(x)
-}
 
 pub(crate) fn put_byte(out: &mut [u8], at: usize, byte: u8) -> usize
     requires { ⌜ at < length (now out) ⌝ }

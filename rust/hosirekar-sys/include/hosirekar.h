@@ -10,6 +10,8 @@
  * counts are 0 and every buffer is as it was. A refusal for room names the first buffer that is short and
  * tells its need.
  *
+ * A mesh is written as a binary STL file to bytes in memory, and read back from them.
+ *
  * What is assumed, for no call tests it:
  * - Floats are rounded to nearest, and subnormal numbers are neither flushed to zero nor read as zero.
  *   A process starts so, unless it is linked with -ffast-math.
@@ -29,7 +31,8 @@ extern "C" {
 #endif
 
 /* The number of an answer: done, or the first fault in the order 1, 2, 3, 4, 6, 51 to 54 (of a merge 1, 7, 4,
- * 51 to 54; of a stored mesh 1, 2, 4, 8). */
+ * 51 to 54; of a stored mesh 1, 2, 4, 8; of a file written 1, 4, 7, 10, 55, and of one read 11, 4,
+ * 51 to 54). */
 enum HosirekarNumber {
     HOSIREKAR_DONE = 0,           /* The counts are those of the mesh. */
     HOSIREKAR_SHAPE = 1,          /* A list's length, a limit, an option's number or a mark is wrong. */
@@ -41,9 +44,12 @@ enum HosirekarNumber {
     HOSIREKAR_ROOM_UVS = 53,      /* The uvs buffer is the first that is too short for the whole mesh. */
     HOSIREKAR_ROOM_INDICES = 54,  /* The indices buffer is the first that is too short for the whole mesh. */
     HOSIREKAR_NO_FACE = 6,        /* There is no face of that number. */
-    HOSIREKAR_INDEX = 7,          /* A merged mesh has an index that names none of its vertices. */
+    HOSIREKAR_INDEX = 7,          /* A mesh merged or written has an index that names none of its vertices. */
     HOSIREKAR_EMPTY = 8,          /* The middle of no vertices is asked for. */
-    HOSIREKAR_SHEET = 9           /* A sheet does not read; only the program `panel` answers so. */
+    HOSIREKAR_SHEET = 9,          /* A sheet does not read; only the program `panel` answers so. */
+    HOSIREKAR_TRIANGLES = 10,     /* Indices are not three a triangle, or there are 2^32 triangles or more. */
+    HOSIREKAR_FILE = 11,          /* A file is shorter than 84 bytes, or not as long as its count says. */
+    HOSIREKAR_BYTES = 55          /* The byte buffer is too short for the whole file. */
 };
 
 /* The option that names no entry of the table: a plain face, or among a map's customs the job's own. */
@@ -106,8 +112,8 @@ typedef struct HosirekarAnswer {
     uint32_t spare; /* 0 */
     size_t vertices;
     size_t indices;
-    /* Beside 51 to 54, how many numbers the whole mesh needs in that buffer: its whole length, not what is
-     * missing. Else 0. */
+    /* Beside 51 to 54, how many numbers the whole mesh needs in that buffer, and beside 55, how many bytes
+     * the file has: the whole length, not what is missing. Else 0. */
     size_t need;
 } HosirekarAnswer;
 
@@ -122,6 +128,13 @@ typedef struct HosirekarUvCentroid {
     HosirekarAnswer answer;
     HosirekarVec2 centroid;
 } HosirekarUvCentroid;
+
+/* An answer, whose counts are those handed over, and how many bytes the file has: 0 where the call was
+ * refused. */
+typedef struct HosirekarFile {
+    HosirekarAnswer answer;
+    size_t bytes;
+} HosirekarFile;
 
 /* An answer, and how many faces a job has: 0 where the call was refused. */
 typedef struct HosirekarFaces {
@@ -519,6 +532,31 @@ HosirekarUvCentroid hosirekar_uv_centroid(
     const float *normals, size_t normals_len,
     const float *uvs, size_t uvs_len,
     const uint16_t *indices, size_t indices_len);
+
+/* ---- Binary STL: 80 bytes of header, how many triangles there are in 32 bits, and 50 bytes a triangle: its
+ * normal, its three corners and two attribute bytes. All numbers are little-endian. */
+
+/* The file of a stored mesh at the start of the bytes, or nothing; bytes past it stay. Header and attributes are
+ * zero, the normal of a triangle is that of its first vertex, and every NaN is 7fc00000. The uvs are asked for,
+ * though none is written. Coordinates go over as they are, y up if the mesh has it so. The normals of a map's walls
+ * are not outward: the winding tells the outside. */
+HosirekarFile hosirekar_stl_write(
+    HosirekarCounts counts,
+    const float *vertices, size_t vertices_len,
+    const float *normals, size_t normals_len,
+    const float *uvs, size_t uvs_len,
+    const uint16_t *indices, size_t indices_len,
+    uint8_t *bytes, size_t bytes_len);
+
+/* The mesh of a file, written to four buffers, or nothing. Each triangle has three vertices of its own, with
+ * its normal and uvs of 0. Header and attributes are not looked at. 4 if there are more than 21,845
+ * triangles. */
+HosirekarAnswer hosirekar_stl_read(
+    const uint8_t *bytes, size_t bytes_len,
+    float *vertices, size_t vertices_len,
+    float *normals, size_t normals_len,
+    float *uvs, size_t uvs_len,
+    uint16_t *indices, size_t indices_len);
 
 #ifdef __cplusplus
 }

@@ -737,3 +737,55 @@ pub fn hosirekar_uv_centroid(
         )
     }
 }
+
+/// The binary STL file of a stored mesh, or nothing. Bytes past it stay as they were.
+#[inline]
+pub fn hosirekar_stl_write(
+    counts: CCounts,
+    vertices: &[f32],
+    normals: &[f32],
+    uvs: &[f32],
+    indices: &[u16],
+    bytes: &mut [u8],
+) -> CFile {
+    unsafe {
+        raw::hosirekar_stl_write(
+            counts,
+            vertices.as_ptr(),
+            vertices.len(),
+            normals.as_ptr(),
+            normals.len(),
+            uvs.as_ptr(),
+            uvs.len(),
+            indices.as_ptr(),
+            indices.len(),
+            bytes.as_mut_ptr(),
+            bytes.len(),
+        )
+    }
+}
+
+/// The mesh of a binary STL file, three vertices of its own for each triangle, or nothing.
+#[inline]
+pub fn hosirekar_stl_read(
+    bytes: &[u8],
+    vertices: &mut [f32],
+    normals: &mut [f32],
+    uvs: &mut [f32],
+    indices: &mut [u16],
+) -> CAnswer {
+    unsafe {
+        raw::hosirekar_stl_read(
+            bytes.as_ptr(),
+            bytes.len(),
+            vertices.as_mut_ptr(),
+            vertices.len(),
+            normals.as_mut_ptr(),
+            normals.len(),
+            uvs.as_mut_ptr(),
+            uvs.len(),
+            indices.as_mut_ptr(),
+            indices.len(),
+        )
+    }
+}

@@ -408,4 +408,31 @@ unsafe extern "C" {
         indices: *const u16,
         indices_len: usize,
     ) -> CUvCentroid;
+
+    pub fn hosirekar_stl_write(
+        counts: CCounts,
+        vertices: *const f32,
+        vertices_len: usize,
+        normals: *const f32,
+        normals_len: usize,
+        uvs: *const f32,
+        uvs_len: usize,
+        indices: *const u16,
+        indices_len: usize,
+        bytes: *mut u8,
+        bytes_len: usize,
+    ) -> CFile;
+
+    pub fn hosirekar_stl_read(
+        bytes: *const u8,
+        bytes_len: usize,
+        vertices: *mut f32,
+        vertices_len: usize,
+        normals: *mut f32,
+        normals_len: usize,
+        uvs: *mut f32,
+        uvs_len: usize,
+        indices: *mut u16,
+        indices_len: usize,
+    ) -> CAnswer;
 }

@@ -75,7 +75,7 @@ pub struct CPlacement {
 #[derive(Clone, Copy, Debug, Default, PartialEq, Eq)]
 pub struct CAnswer {
     /// 0, or why nothing was written: 51, 52, 53 or 54 where the vertices, the normals, the uvs or the
-    /// indices are the first buffer that is too short.
+    /// indices are the first buffer that is too short, 55 where the bytes of a file are.
     pub number: u32,
     /// 0.
     pub spare: u32,
@@ -83,8 +83,8 @@ pub struct CAnswer {
     pub vertices: usize,
     /// 0 where the call was refused.
     pub indices: usize,
-    /// How many numbers the whole mesh needs in that buffer, all of them and not those that are
-    /// missing; 0 beside every other number.
+    /// How many numbers the whole mesh needs in that buffer, or bytes the whole file: all of them and
+    /// not those that are missing; 0 beside every other number.
     pub need: usize,
 }
 
@@ -252,6 +252,16 @@ pub struct CUvCentroid {
     pub answer: CAnswer,
     /// The middle.
     pub centroid: CVec2,
+}
+
+/// An answer, and how many bytes the file has: 0 where the call was refused.
+#[repr(C)]
+#[derive(Clone, Copy, Debug, Default, PartialEq, Eq)]
+pub struct CFile {
+    /// The counts are those that were handed over.
+    pub answer: CAnswer,
+    /// 84, and 50 for each triangle.
+    pub bytes: usize,
 }
 
 /// Which components of a uv are mirrored.

@@ -110,10 +110,49 @@ static void call_load(void) {
     print_answer("too short", hosirekar_heightmap_load(records, 2, cells, 53, neighbours, 12));
 }
 
+static void print_bytes(const char *what, const uint8_t *bytes, int count) {
+    printf("%s: ", what);
+    for (int k = 0; k < count; k++)
+        printf("%02x", bytes[k]);
+    printf("\n");
+}
+
+static void call_files(void) {
+    float vertices[9] = {1, 2, 3, 4, 5, 6, 7, 8, 9}, normals[9] = {10, 11, 12, 13, 14, 15, 16, 17, 18};
+    float uvs[6] = {19, 20, 21, 22, 23, 24};
+    uint16_t indices[3] = {2, 0, 1};
+    uint8_t bytes[135];
+    HosirekarCounts one = {3, 3}, none = {0, 0};
+    for (int k = 0; k < 135; k++)
+        bytes[k] = 0xee;
+    HosirekarFile file = hosirekar_stl_write(one, vertices, 9, normals, 9, uvs, 6, indices, 3, bytes, 133);
+    print_answer("no bytes", file.answer);
+    printf("it: %lu\n", (unsigned long)file.bytes);
+    print_bytes("as before", bytes + 83, 1);
+    file = hosirekar_stl_write(one, vertices, 9, normals, 9, uvs, 6, indices, 3, bytes, 135);
+    print_answer("write", file.answer);
+    printf("it: %lu\n", (unsigned long)file.bytes);
+    print_bytes("its head and normal", bytes + 79, 17);
+    print_bytes("its end", bytes + 128, 7);
+    bytes[0] = 's';
+    print_answer("no file", hosirekar_stl_read(bytes, 135, vertices, 9, normals, 9, uvs, 6, indices, 3));
+    print_answer("no room", hosirekar_stl_read(bytes, 134, vertices, 9, normals, 9, uvs, 5, indices, 2));
+    print_answer("read", hosirekar_stl_read(bytes, 134, vertices, 9, normals, 9, uvs, 6, indices, 3));
+    print_floats("vertices", vertices, 9);
+    print_floats("normals", normals, 9);
+    print_floats("uvs", uvs, 6);
+    printf("indices: %u %u %u\n", indices[0], indices[1], indices[2]);
+    file = hosirekar_stl_write(none, NULL, 0, NULL, 0, NULL, 0, NULL, 0, bytes, 84);
+    print_answer("no triangles", file.answer);
+    printf("it: %lu\n", (unsigned long)file.bytes);
+    print_answer("read", hosirekar_stl_read(bytes, 84, NULL, 0, NULL, 0, NULL, 0, NULL, 0));
+}
+
 int main(void) {
     call_numbers();
     call_jobs();
     call_load();
     call_stored();
+    call_files();
     return 0;
 }

@@ -55,6 +55,33 @@ merge: 0, 6 and 6, need 0
 indices: 5 4 3
 centroid: 0, 6 and 6, need 0
 it: 3 8 40
+no bytes: 55, 0 and 0, need 134
+it: 0
+as before: ee
+write: 0, 3 and 3, need 0
+it: 134
+its head and normal: 0001000000000080410000884100009041
+its end: 0000c0400000ee
+no file: 11, 0 and 0, need 0
+no room: 53, 0 and 0, need 6
+read: 0, 3 and 3, need 0
+vertices: 7 8 9 1 2 3 4 5 6
+normals: 16 17 18 16 17 18 16 17 18
+uvs: 0 0 0 0 0 0
+indices: 0 1 2
+no triangles: 0, 0 and 0, need 0
+it: 84
+read: 0, 0 and 0, need 0
+";
+
+/// Sixteen triangles of 50 bytes after 84; the first has the corners 0, 2 and 1 of the top.
+const STL: &str = "\
+answer 55: the file needs 884 bytes
+answer 0: 884 bytes
+answer 0: 48 vertices, 48 indices
+2 3 0
+-1 3 2
+1 3 2
 ";
 
 const README: &str = include_str!("../../../README.md");
@@ -77,6 +104,11 @@ fn hold_printed(language: &Language, path: &str, wanted: &str) {
 #[test]
 fn the_example_builds_a_map_and_one_face_of_it() {
     hold_printed(&C, "examples/map.c", MAP);
+}
+
+#[test]
+fn the_example_writes_a_file_and_reads_it() {
+    hold_printed(&C, "examples/stl.c", STL);
 }
 
 #[test]

@@ -36,6 +36,21 @@
 //! # Ok::<(), Refusal>(())
 //! ```
 //!
+//! # Files
+//!
+//! [`Mesh::to_stl`] makes a binary STL file of a mesh, [`Mesh::write_stl`] writes it to anything that
+//! takes bytes, and [`Mesh::from_stl`] makes a mesh of one again, with three vertices for each triangle.
+//!
+//! ```
+//! use hosirekar::{Column, Job, Mesh};
+//!
+//! let mesh = Column::default().build()?;
+//! let mut file = Vec::new();
+//! mesh.write_stl(&mut file)?;
+//! assert_eq!(Mesh::from_stl(&file)?.vertices.len(), mesh.indices.len());
+//! # Ok::<(), Box<dyn std::error::Error>>(())
+//! ```
+//!
 //! # Refusals
 //!
 //! No call panics and none half succeeds. A call that is refused says why with a [`Refusal`] and
@@ -116,6 +131,7 @@ mod placement;
 mod plane;
 mod range;
 mod refusal;
+mod stl;
 
 pub use cheap_column::CheapColumn;
 pub use column::Column;

@@ -68,7 +68,8 @@ pub enum Refusal {
     Range(OutOfRange),
     /// A neighbour is neither a cell nor none.
     Neighbour,
-    /// There would be more than 65,536 vertices, or more indices than so many have in any plan.
+    /// There would be more than 65,536 vertices, or more indices than so many have in any plan. A file of
+    /// more than 21,845 triangles would have them.
     Limit,
     /// A lent buffer is shorter than the whole mesh needs.
     ///
@@ -99,16 +100,28 @@ pub enum Refusal {
     },
     /// The job has no face of that number.
     NoFace,
-    /// A mesh to be merged has an index that is none of its vertices.
+    /// A mesh to be merged or written to a file has an index that is none of its vertices.
     Index,
     /// There is no centroid of no vertices.
     Empty,
+    /// The indices of a mesh to be written to a file are not three for each triangle, or the triangles are
+    /// more than 32 bits count.
+    Triangles,
+    /// The bytes to be read are no binary STL file: they are fewer than 84, or not 84 and 50 for each
+    /// triangle that they count.
+    File,
+    /// The bytes that are lent for a file are too few. [`Mesh::to_stl`](crate::Mesh::to_stl) lends as many
+    /// as it takes, so no call of this crate is refused so.
+    Bytes {
+        /// How many bytes the file has. It is 0 where it is not known.
+        need: usize,
+    },
 }
 
 impl Refusal {
     /// All of them, by their numbers. Of the [`Range`](Refusal::Range) no place is known, and of the
-    /// [`Room`](Refusal::Room) no need.
-    pub const ALL: [Refusal; 11] = [
+    /// [`Room`](Refusal::Room) and the [`Bytes`](Refusal::Bytes) no need.
+    pub const ALL: [Refusal; 14] = [
         Refusal::Shape,
         Refusal::Range(OutOfRange::UNKNOWN),
         Refusal::Neighbour,
@@ -116,10 +129,13 @@ impl Refusal {
         Refusal::NoFace,
         Refusal::Index,
         Refusal::Empty,
+        Refusal::Triangles,
+        Refusal::File,
         Refusal::short(Buffer::Vertices),
         Refusal::short(Buffer::Normals),
         Refusal::short(Buffer::Uvs),
         Refusal::short(Buffer::Indices),
+        Refusal::Bytes { need: 0 },
     ];
 
     /// Room in a buffer of which no need is known.
@@ -127,7 +143,7 @@ impl Refusal {
         Refusal::Room { buffer, need: 0 }
     }
 
-    /// Its number: 1 to 4, 6 to 8, and 51 to 54 where a buffer is too short.
+    /// Its number: 1 to 4, 6 to 8, 10, 11, and 51 to 55 where a buffer is too short.
     #[must_use]
     pub const fn number(self) -> u32 {
         match self {
@@ -144,11 +160,15 @@ impl Refusal {
             Refusal::NoFace => 6,
             Refusal::Index => 7,
             Refusal::Empty => 8,
+            Refusal::Triangles => 10,
+            Refusal::File => 11,
+            Refusal::Bytes { .. } => 55,
         }
     }
 
     /// The refusal of that number. Of the [`Range`](Refusal::Range) no place is known, and of the
-    /// [`Room`](Refusal::Room) no need, so it does not equal what a call answers.
+    /// [`Room`](Refusal::Room) and the [`Bytes`](Refusal::Bytes) no need, so these do not equal what a call
+    /// answers.
     #[must_use]
     pub const fn from_number(number: u32) -> Option<Refusal> {
         let mut k = 0;
@@ -165,6 +185,7 @@ impl Refusal {
     fn with_need(self, need: usize) -> Refusal {
         match self {
             Refusal::Room { buffer, .. } => Refusal::Room { buffer, need },
+            Refusal::Bytes { .. } => Refusal::Bytes { need },
             other => other,
         }
     }
@@ -179,16 +200,23 @@ impl fmt::Display for Refusal {
             Refusal::Range(stray) => return stray.fmt(f),
             Refusal::Neighbour => "a neighbour does not exist: name a cell of the map, or none",
             Refusal::Limit => {
-                "more than 65,536 vertices, or the indices of more: ask for fewer faces, parts or insets, or for several meshes"
+                "more than 65,536 vertices, or the indices of more: ask for fewer faces, parts or insets, or for several meshes; of a file read at most 21,845 triangles"
             }
             Refusal::Room { buffer, need } => return write_room(f, *buffer, *need),
             Refusal::NoFace => "the job has no face of that number: count its faces from 0",
             Refusal::Index => {
-                "an index of the mesh to be merged names no vertex: keep indices below its vertex count"
+                "an index of the mesh to be merged or written names no vertex: keep indices below its vertex count"
             }
             Refusal::Empty => {
                 "the mesh has no vertices and so no centroid: build or merge into it first"
             }
+            Refusal::Triangles => {
+                "the indices are no whole triangles: give three for each, and no more triangles than 32 bits count"
+            }
+            Refusal::File => {
+                "the bytes are no binary STL file: give a whole one, 84 bytes and 50 for each triangle that it counts"
+            }
+            Refusal::Bytes { need } => return write_bytes(f, *need),
         })
     }
 }
@@ -204,6 +232,15 @@ fn write_room(f: &mut fmt::Formatter<'_>, buffer: Buffer, need: usize) -> fmt::R
     match need {
         0 => write!(f, "all numbers of the whole mesh, {each}"),
         _ => write!(f, "at least {need} numbers, {each}"),
+    }
+}
+
+/// To what the bytes are to be lengthened.
+fn write_bytes(f: &mut fmt::Formatter<'_>, need: usize) -> fmt::Result {
+    f.write_str("the byte buffer is too short: lengthen it to ")?;
+    match need {
+        0 => f.write_str("all bytes of the whole file"),
+        _ => write!(f, "at least {need} bytes"),
     }
 }
 

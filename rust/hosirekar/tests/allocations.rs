@@ -1,4 +1,4 @@
-//! How often jobs that are added to a mesh ask for memory.
+//! How often jobs that are added to a mesh ask for memory, and files that are written and read.
 
 mod common;
 use common::*;
@@ -115,4 +115,23 @@ fn a_refusal_asks_for_no_memory() {
     let mut none = Mesh::default();
     let short = || plane().build_into(&mut none.buffers()).unwrap_err();
     assert_eq!(asked(short), 0);
+}
+
+#[test]
+fn a_file_asks_for_its_bytes_and_a_mesh_for_its_lists() {
+    let mesh = column().build().unwrap();
+    let file = mesh.to_stl().unwrap();
+    assert_eq!(asked(|| mesh.to_stl().unwrap()), 1);
+    assert_eq!(asked(|| Mesh::from_stl(&file).unwrap()), 4);
+    assert_eq!(asked(|| Mesh::from_stl(&file[1..]).unwrap_err()), 0);
+    // 4,294,967,295 triangles are not there.
+    let mut boast = file.clone();
+    boast[80..84].fill(0xff);
+    assert_eq!(asked(|| Mesh::from_stl(&boast).unwrap_err()), 0);
+    let mut astray = mesh;
+    astray.indices[0] = 65_535;
+    assert_eq!(asked(|| astray.to_stl().unwrap_err()), 0);
+    astray.indices.truncate(4);
+    astray.indices[0] = 0;
+    assert_eq!(asked(|| astray.to_stl().unwrap_err()), 0);
 }

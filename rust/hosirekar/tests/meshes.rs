@@ -64,6 +64,7 @@ fn a_stored_mesh_past_the_limit_is_refused() {
     let mut mesh = filled(65_537, 0);
     assert_eq!(mesh.scale([1.0; 3]), Err(Refusal::Limit));
     assert_eq!(mesh.centroid(), Err(Refusal::Limit));
+    assert_eq!(mesh.to_stl(), Err(Refusal::Limit));
     assert_eq!(mesh.merge_with(&Mesh::default()), Err(Refusal::Limit));
 }
 

@@ -526,6 +526,7 @@ fn a_mesh_whose_lists_do_not_fit_is_refused() {
         assert_eq!(onto.merge_with(&bad), Err(Refusal::Shape));
         assert_eq!(bad.centroid(), Err(Refusal::Shape));
         assert_eq!(bad.uv_centroid(), Err(Refusal::Shape));
+        assert_eq!(bad.to_stl(), Err(Refusal::Shape));
         assert_eq!((bits(&target), bits(&onto)), (bits(&bad), bits(&good)));
     }
 }
@@ -552,14 +553,14 @@ fn a_centroid_of_nothing_is_refused() {
 
 #[test]
 fn numbers_and_words_tell_refusals_apart() {
-    let numbers = [1, 2, 3, 4, 6, 7, 8, 51, 52, 53, 54];
+    let numbers = [1, 2, 3, 4, 6, 7, 8, 10, 11, 51, 52, 53, 54, 55];
     assert_eq!(Refusal::ALL.map(Refusal::number), numbers);
     for (k, why) in numbers.into_iter().zip(Refusal::ALL) {
         assert_eq!(Refusal::from_number(k), Some(why));
         let error: &dyn std::error::Error = &why;
         assert!(error.to_string().contains(": "), "{why:?} says what to do");
     }
-    for none in [0, 5, 9, 10, 50, 55, 257, u32::MAX] {
+    for none in [0, 5, 9, 12, 50, 56, 257, u32::MAX] {
         assert_eq!(Refusal::from_number(none), None);
     }
     let mut words = Refusal::ALL.map(|why| why.to_string());
@@ -645,6 +646,11 @@ fn every_call_is_answered(mesh: &Mesh, refused: Option<Refusal>) {
         .or(astray.then_some(Refusal::Index))
         .or(refused);
     assert_eq!(Mesh::default().merge_with(mesh).err(), merged);
+    let parts = counts.indices % 3 > 0;
+    let file = refused
+        .or(astray.then_some(Refusal::Index))
+        .or(parts.then_some(Refusal::Triangles));
+    assert_eq!(same.to_stl().err(), file);
     assert!(bits(&same) == bits(mesh));
 }
 

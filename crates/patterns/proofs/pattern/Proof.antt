@@ -3,9 +3,10 @@ use mathlib.Core.Path.{_≡_, refl, sym, _∙_}
 use mathlib.Core.Bool.{Bool, true, false, not, false≢true, true≢false}
 use Prim.Native.Nat.{ℕ, _*_}
 use lib.Dec.{T}
-use lib.Ieee.{Float, nan, inf, fin, eq, level, up, down, isNan, binary32, toBits}
-use borrow.Author.Needs.{needs}
+use lib.Ieee.{Float, nan, inf, fin, eq, level, up, down, isNan}
 use borrow.Author.Tests.{eq-eqb}
+use Rattle.patterns.specs.Patterns.{bitsOf}
+use Rattle.patterns.proofs.Laws.{bits-are}
 use Rattle.patterns.proofs.pattern.Statement.{statement}
 use Rattle.patterns.proofs.pattern.Tie as tie
 
@@ -19,12 +20,12 @@ level-same : (s : Bool) (a : ℕ) → level s a s a ≡ true
 level-same true a = rw (eq-eqb a a refl)
 level-same false a = rw (eq-eqb a a refl)
 
-the-nan : (x : Float) → eq x x ≡ false → 0x7fc0_0000 ≡ toBits binary32 x
-unfolding eq toBits
+the-nan : (x : Float) → eq x x ≡ false → 0x7fc0_0000 ≡ bitsOf x
+unfolding eq isNan
 the-nan nan h = refl
 the-nan (inf true) h = absurd (true≢false h)
 the-nan (inf false) h = absurd (true≢false h)
 the-nan (fin s m e) h = absurd (true≢false (sym (level-same s (m * up e * down e)) ∙ h))
 
 pub pattern-spec : {M : Type 1} → statement M
-pattern-spec = tie.close (tie.spec (λ c. no-nan _ (c .if1 .taken)) (λ c. search needs) (λ c. the-nan _ (c .if1 .left)))
+pattern-spec = tie.close (tie.spec (λ c. no-nan _ (c .if1 .taken)) (λ c. bits-are _) (λ c. the-nan _ (c .if1 .left)))

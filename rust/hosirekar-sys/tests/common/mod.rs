@@ -5,6 +5,8 @@ pub mod faults;
 pub mod jobs;
 pub mod merges;
 pub mod samples;
+pub mod stl;
+pub mod stl_draws;
 
 use hosirekar_sys::{hosirekar_merge, CAnswer, CCounts};
 use std::fmt::Display;

@@ -17,10 +17,10 @@ put-float-spec =
     (λ c κs. search needs)
     (λ c κs.
     let a = c .before .before .before .before .before .args in
-    omega (arith, length-digits 16 8 (c .bits-of .result), length-float (now (a .numbers)) (a .width) (a .k)))
+    omega (arith, length-digits 16 8 (c .pattern .result), length-float (now (a .numbers)) (a .width) (a .k)))
     (λ c κs. search needs)
     (λ c κs.
     let a = c .before .before .before .before .before .before .before .before .before .before .args in
-    omega (arith, length-digits 16 8 (c .before .before .before .before .before .bits-of .result), length-float (now (a .numbers)) (a .width) (a .k), put-length _ _ _ _ _ (c .before .before .before .before .put-hex .ensures), c .before .before .before .before .put-hex .ensures .ends))
+    omega (arith, length-digits 16 8 (c .before .before .before .before .before .pattern .result), length-float (now (a .numbers)) (a .width) (a .k), put-length _ _ _ _ _ (c .before .before .before .before .put-hex .ensures), c .before .before .before .before .put-hex .ensures .ends))
     (λ c. search needs)
-    (λ c. rw (c .before .before .before .before .before .before .before .before .bits-of .ensures, c .before .before .before .gap .ensures) at (put-next _ _ _ _ _ _ _ _ (c .before .before .before .before .before .before .before .put-hex .ensures) (c .before .before .put-byte .ensures))))
+    (λ c. rw (c .before .before .before .before .before .before .before .before .pattern .ensures, c .before .before .before .gap .ensures) at (put-next _ _ _ _ _ _ _ _ (c .before .before .before .before .before .before .before .put-hex .ensures) (c .before .before .put-byte .ensures))))

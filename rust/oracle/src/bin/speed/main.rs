@@ -1,7 +1,9 @@
 //! Times hexx and our own code on the same jobs, in turns, and the copying of
-//! the same bytes beside them. Arguments choose the rows: kinds (`columns`,
-//! `planes`, `cheap`, `faces`, `maps`) and parts of names.
+//! the same bytes beside them; of files, which hexx has not, the copying alone.
+//! Arguments choose the rows: kinds (`columns`, `planes`, `cheap`, `faces`,
+//! `maps`, `files`) and parts of names.
 
+mod files;
 mod hills;
 mod jobs;
 mod map_growth;
@@ -18,5 +20,8 @@ fn main() {
         maps::whole(rows);
         maps::faces(rows);
         map_growth::tell(rows);
+    }
+    if rows.of("files") {
+        files::tell(rows);
     }
 }
