@@ -55,11 +55,11 @@ module _ {A : Type 0} (ok : A → Bool) (xs : List A) (z : A) where
   pub kept-all : (i : ℕ) (good : Bool) → Kept i good → length xs ≤ i → good ≡ every ok xs
   kept-all i good p h = sym (and-true good) ∙ rw (drop-of-length-le xs h) at (p .1)
 
-&&-left : (a b : Bool) → a && b ≡ true → a ≡ true
+pub &&-left : (a b : Bool) → a && b ≡ true → a ≡ true
 &&-left true b e = refl
 &&-left false b e = e
 
-&&-right : (a b : Bool) → a && b ≡ true → b ≡ true
+pub &&-right : (a b : Bool) → a && b ≡ true → b ≡ true
 &&-right true b e = e
 &&-right false b e = let p : false ≡ true = e in cc
 

@@ -14,6 +14,11 @@ use Rattle.mesh.specs.Jobs.{facesBy, windowBy}
 use Rattle.heightmap.specs.HeightMap.{Lists}
 use Rattle.heightmap.specs.Tests.{planned}
 use Rattle.heightmap.specs.Calls.{wholeAnswer, faceAnswer, built, faced, facesTold, windowTold}
+use Rattle.heightmap_why.specs.declared.WhyAnswer.{WhyAnswer}
+use Rattle.heightmap_why.specs.declared.WhyAnswer.the-variants as why
+use Rattle.heightmap_why.specs.declared.WhichAnswer.{WhichAnswer}
+use Rattle.heightmap_why.specs.declared.WhichAnswer.the-variants as which
+use Rattle.heightmap_why.specs.Why.{whyTold, whichTold}
 use Rattle.boundary.specs.declared.jobs.CHeightMap.{CHeightMap}
 use Rattle.boundary.specs.FromC.{isFringe, heightMapOf}
 
@@ -42,3 +47,10 @@ mapFacesTold job ls = cond (isFringe (job .fringe)) (facesTold (heightMapOf job)
 
 abbrev pub mapWindowTold : CHeightMap → Lists → ℕ → Window
 mapWindowTold job ls k = cond (isFringe (job .fringe)) (windowTold (heightMapOf job) ls k) (windowBy (Refused Shape) none none)
+
+-- L3c
+abbrev pub mapWhyTold : CHeightMap → Lists → ℕ → ℕ → WhyAnswer
+mapWhyTold job ls k d = cond (isFringe (job .fringe)) (whyTold (heightMapOf job) ls k d) (why.Refused Shape)
+
+abbrev pub mapWhichTold : CHeightMap → Lists → ℕ → WhichAnswer
+mapWhichTold job ls i = cond (isFringe (job .fringe)) (whichTold (heightMapOf job) ls i) (which.Refused Shape)

@@ -1,12 +1,14 @@
 // What a caller is told: a number, 0 or that of a refusal, the counts, and the need of a buffer that is
 // short. The spare number is 0.
 ghost use mathlib.Core.Path.{_≡_};
-ghost use Rattle.boundary.specs.ToC.{answerToC, pointToC, point3ToC, centroidToC, uvCentroidToC, facesToC, windowToC, fileToC};
+ghost use Rattle.boundary.specs.ToC.{answerToC, pointToC, point3ToC, centroidToC, uvCentroidToC, facesToC, windowToC, fileToC, whyToC, whichToC};
 use crate::from_c::CVec2;
 use crate::from_c::CVec3;
 use answer::answer::Answer;
 use face::vec::Vec2;
 use face::vec::Vec3;
+use heightmap_why::WhichAnswer;
+use heightmap_why::WhyAnswer;
 use mesh::stored::CentroidAnswer;
 use mesh::stored::UvCentroidAnswer;
 use mesh::windows::Faces;
@@ -53,6 +55,22 @@ pub struct CWindow {
 pub struct CFile {
     pub answer: CAnswer,
     pub bytes: usize,
+}
+
+#[repr(C)]
+pub struct CWhy {
+    pub answer: CAnswer,
+    pub reason: u32,
+    pub height: f32,
+    pub face: usize,
+}
+
+#[repr(C)]
+pub struct CWhich {
+    pub answer: CAnswer,
+    pub kind: u32,
+    pub side: u32,
+    pub cell: usize,
 }
 
 pub fn answer_to_c(answer: Answer) -> CAnswer
@@ -140,5 +158,43 @@ pub fn file_to_c(told: FileAnswer) -> CFile
     CFile {
         answer: answer_to_c(inner),
         bytes: told.bytes,
+    }
+}
+
+pub fn why_to_c(told: WhyAnswer) -> CWhy
+    ensures { λ r. ⌜ r ≡ whyToC told ⌝ }
+{
+    match told {
+        WhyAnswer::Refused(why) => CWhy {
+            answer: answer_to_c(Answer::Refused(why)),
+            reason: 0,
+            height: 0.0,
+            face: 0,
+        },
+        WhyAnswer::Because(counts, reason) => CWhy {
+            answer: answer_to_c(Answer::Done(counts)),
+            reason: heightmap_why::reason_code(reason),
+            height: heightmap_why::reason_height(reason),
+            face: heightmap_why::reason_face(reason),
+        },
+    }
+}
+
+pub fn which_to_c(told: WhichAnswer) -> CWhich
+    ensures { λ r. ⌜ r ≡ whichToC told ⌝ }
+{
+    match told {
+        WhichAnswer::Refused(why) => CWhich {
+            answer: answer_to_c(Answer::Refused(why)),
+            kind: 0,
+            side: 0,
+            cell: 0,
+        },
+        WhichAnswer::Named(counts, name) => CWhich {
+            answer: answer_to_c(Answer::Done(counts)),
+            kind: heightmap_why::kind_code(name),
+            side: heightmap_why::side_of(name),
+            cell: heightmap_why::cell_of(name),
+        },
     }
 }

@@ -4,14 +4,18 @@
 ghost use mathlib.Core.Path.{_≡_};
 ghost use Rattle.buffers.specs.Lent.{entering, become};
 ghost use Rattle.heightmap.specs.HeightMap.{lent};
-ghost use Rattle.boundary.specs.Maps.{mapPlanned, mapWhole, mapFace, mapBuilt, mapFaced, mapFacesTold, mapWindowTold};
-ghost use Rattle.boundary.specs.ToC.{answerToC, facesToC, windowToC};
+ghost use Rattle.boundary.specs.Maps.{mapPlanned, mapWhole, mapFace, mapBuilt, mapFaced, mapFacesTold, mapWindowTold, mapWhyTold, mapWhichTold};
+ghost use Rattle.boundary.specs.ToC.{answerToC, facesToC, windowToC, whyToC, whichToC};
 use answer::answer::Answer;
 use answer::answer::Refusal;
 use boundary::jobs::CHeightMap;
 use boundary::to_c::CAnswer;
 use boundary::to_c::CFaces;
+use boundary::to_c::CWhich;
+use boundary::to_c::CWhy;
 use boundary::to_c::CWindow;
+use heightmap_why::WhichAnswer;
+use heightmap_why::WhyAnswer;
 
 // The counts of the job, or why it is refused.
 #[no_mangle]
@@ -102,6 +106,71 @@ pub extern "C" fn hosirekar_heightmap_window(
     }
     let refused = Answer::Refused(Refusal::Shape);
     boundary::to_c::window_to_c(mesh::windows::window_of_all(refused))
+}
+
+// Why a side of a cell is there or is not: 1 sides are off, 2 no neighbour and no fringe height, 3 the neighbour or the
+// fringe as high or higher, with that height, 4 there, with the number of its face.
+#[no_mangle]
+pub extern "C" fn hosirekar_heightmap_why(
+    job: CHeightMap,
+    cells: &[f32],
+    neighbours: &[u32],
+    fringe: &[f32],
+    customs: &[u8],
+    corners: &[f32],
+    numbers: &[f32],
+    marks: &[u8],
+    cell: usize,
+    side: usize,
+) -> CWhy
+    ensures { λ r. ⌜ r ≡ whyToC (mapWhyTold job (lent cells neighbours fringe customs corners numbers marks) cell side) ⌝ }
+{
+    if boundary::jobs::is_fringe(job.fringe) {
+        return boundary::to_c::why_to_c(heightmap_why::why(
+            boundary::jobs::heightmap_of(job),
+            cells,
+            neighbours,
+            fringe,
+            customs,
+            corners,
+            numbers,
+            marks,
+            cell,
+            side,
+        ));
+    }
+    boundary::to_c::why_to_c(WhyAnswer::Refused(Refusal::Shape))
+}
+
+// Which face a number is: 1 the cap of a cell, 2 a side of a cell.
+#[no_mangle]
+pub extern "C" fn hosirekar_heightmap_which(
+    job: CHeightMap,
+    cells: &[f32],
+    neighbours: &[u32],
+    fringe: &[f32],
+    customs: &[u8],
+    corners: &[f32],
+    numbers: &[f32],
+    marks: &[u8],
+    number: usize,
+) -> CWhich
+    ensures { λ r. ⌜ r ≡ whichToC (mapWhichTold job (lent cells neighbours fringe customs corners numbers marks) number) ⌝ }
+{
+    if boundary::jobs::is_fringe(job.fringe) {
+        return boundary::to_c::which_to_c(heightmap_why::which(
+            boundary::jobs::heightmap_of(job),
+            cells,
+            neighbours,
+            fringe,
+            customs,
+            corners,
+            numbers,
+            marks,
+            number,
+        ));
+    }
+    boundary::to_c::which_to_c(WhichAnswer::Refused(Refusal::Shape))
 }
 
 // The whole job, written to four buffers, or nothing.

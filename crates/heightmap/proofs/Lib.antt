@@ -2,5 +2,6 @@ pub mod Counts
 pub mod Faces
 pub mod Numbering
 pub mod Reading
+pub mod Taken
 pub mod Walls
 pub mod Worked

@@ -1,5 +1,5 @@
 -- Every face stands at its number and starts where the counts say: a cap is the first face of its cell, a side comes after
--- the cap and the sides before it. Assumes nothing.
+-- the cap and the sides before it. Every number below their count is that of a face that the map has. Assumes nothing.
 use mathlib.Core.Path.{_≡_, refl, sym, ap, ap₂, subst, _∙_}
 use mathlib.Core.Bool.{Bool, true, false, not, cond}
 use mathlib.Core.List.{List, [], _∷_, _++_, map}
@@ -11,7 +11,7 @@ use lib.ListN.{length, getD, length-append}
 use Rattle.face.specs.Lists.{chain}
 use Rattle.placement.specs.declared.options.Choice.{Choice}
 use Rattle.placement.specs.declared.options.Choice.the-variants as option
-use Rattle.buffers.specs.Mesh.{Mesh, none, also, sizeOf, measure, startOf, summed}
+use Rattle.buffers.specs.Mesh.{Mesh, also, sizeOf, measure, startOf, summed}
 use Rattle.buffers.proofs.Windows.{also-none}
 use Rattle.buffers.proofs.Named.{Stands, stands-name, stands-below, stands-first, stands-left, stands-right, stands-chain, chain-name, chain-start, start-right}
 use Rattle.heightmap.specs.declared.Name.{Name}
@@ -20,8 +20,9 @@ use Rattle.heightmap.specs.declared.HeightMap.{HeightMap}
 use Rattle.heightmap.specs.Grid.{Grid, cellsIn, wall, present}
 use Rattle.heightmap.specs.HeightMap.{Lists, lists, capNames, sideNames, cellNames, mapNames, meshOf}
 use Rattle.heightmap.specs.Counts.{capCounts, sideCounts, cellStart}
-use Rattle.heightmap.specs.Names.{nameAt, startBy, facesBefore, numberOf}
+use Rattle.heightmap.specs.Names.{nameAt, startBy, facesBefore, numberOf, Has}
 use Rattle.heightmap.proofs.Counts.{size-of, cap-sum, sides-sum, cells-sum}
+use Rattle.heightmap.proofs.Walls.{there-why}
 
 module _ (job : HeightMap) (g : Grid) where
   pub stands-cap : (k o : ℕ) → k < cellsIn (g .cells) → job .caps ≡ option.With o → Stands (mapNames job g) (numberOf job g (Cap k)) (Cap k)
@@ -102,6 +103,41 @@ module _ (job : HeightMap) (g : Grid) where
       ∙ ap (numberOf job g) (chain-name (cellNames job g) n (f .list) (f .rest) (Cap 0) (f .below) (f .inside))
       ∙ cell-number (f .list) (f .rest) (f .inside)
       ∙ sym (f .sum)
+
+-- ---- and every name is that of a face that the map has
+-- what holds of each name of each list holds of each name of the chain
+chain-all : {N : Type 0} (P : N → Type 0) (g : ℕ → List N) (m : ℕ) (z : N) → ((k j : ℕ) → k < m → j < length (g k) → P (getD (g k) j z))
+    → (i : ℕ) → i < length (chain g m) → P (getD (chain g m) i z)
+chain-all P g m z h i l =
+    let f = falls g m i l in
+    subst P
+    (sym (ap (λ (j : ℕ). getD (chain g m) j z) (f .sum) ∙ chain-name g m (f .list) (f .rest) z (f .below) (f .inside)))
+    (h (f .list) (f .rest) (f .below) (f .inside))
+
+module _ (job : HeightMap) (g : Grid) (k : ℕ) (h : k < cellsIn (g .cells)) where
+  side-has : (d j : ℕ) → d < 6 → j < length (sideNames job g k d) → Has job g (getD (sideNames job g k d) j (Cap 0))
+  side-has d j l u = go (present (wall job g k d)) refl j u
+    where
+      go : (b : Bool) → present (wall job g k d) ≡ b → (j : ℕ) → j < length (cond b (Side k d ∷ []) []) → Has job g (getD (cond b (Side k d ∷ []) []) j (Cap 0))
+      go false e j u = absurd (let x : j < 0 = u in omega arith)
+      go true e zero u = ((h, l), there-why job g k d e)
+      go true e (suc j) u = absurd (let x : suc j < 1 = u in omega arith)
+
+  cell-has : (j : ℕ) → j < length (cellNames job g k) → Has job g (getD (cellNames job g k) j (Cap 0))
+  cell-has j u = go (job .caps) refl j u
+    where
+      sides : (j : ℕ) → j < length (chain (sideNames job g k) 6) → Has job g (getD (chain (sideNames job g k) 6) j (Cap 0))
+      sides = chain-all (Has job g) (sideNames job g k) 6 (Cap 0) side-has
+
+      go : (c : Choice) → job .caps ≡ c → (j : ℕ) → j < length (capNames c k ++ chain (sideNames job g k) 6)
+          → Has job g (getD (capNames c k ++ chain (sideNames job g k) 6) j (Cap 0))
+      go option.Absent e j u = sides j u
+      go (option.With o) e zero u = (h, rw e tt)
+      go (option.With o) e (suc j) u = sides j (let x : suc j < suc (length (chain (sideNames job g k) 6)) = u in omega arith)
+
+pub name-has : (job : HeightMap) (g : Grid) (i : ℕ) → i < length (mapNames job g) → Has job g (nameAt job g i)
+unfolding mapNames
+name-has job g = chain-all (Has job g) (cellNames job g) (cellsIn (g .cells)) (Cap 0) (λ k j h. cell-has job g k h j)
 
 -- ---- where it starts
 module _ (job : HeightMap) (ls : Lists) where

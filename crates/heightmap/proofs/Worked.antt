@@ -1,7 +1,7 @@
 -- Height maps worked out, by computation. Assumes nothing.
 use mathlib.Core.Path.{_≡_, refl}
 use Prim.Native.Nat.{ℕ}
-use mathlib.Core.Bool.{Bool, true, false, cond}
+use mathlib.Core.Bool.{cond}
 use mathlib.Core.List.{List, [], _∷_, _++_, map}
 use lib.Ieee.{Float, binary32, ofBits, toBits, add, sub, mul, div, neg, lt, le, eq, ne, ofInt}
 use Rattle.face.specs.declared.vec.Vec2.{Vec2}
@@ -9,7 +9,6 @@ use Rattle.face.specs.Lists.{each}
 use Rattle.face.specs.Vec.{v2, v3, f0, f1}
 use Rattle.face.specs.Triangles.{counts}
 use Rattle.answer.specs.declared.answer.Refusal.the-variants.{Shape, Range, Neighbour, NoFace}
-use Rattle.answer.specs.declared.answer.Answer.{Answer}
 use Rattle.answer.specs.declared.answer.Answer.the-variants.{Done, Refused}
 use Rattle.placement.specs.declared.options.Choice.{Choice}
 use Rattle.placement.specs.declared.options.Choice.the-variants as option
@@ -39,11 +38,11 @@ use Rattle.heightmap.specs.Names.{nameAt, startBy, numberOf}
 use Rattle.heightmap.specs.Calls.{facesTold, windowTold}
 
 -- all that is computed through
-unfoldable opened : ℕ
+unfoldable pub opened : ℕ
 unfolding toBits ofBits ofInt add sub mul div neg lt le eq ne Faces.quadMesh Faces.hexagonMesh mapNames meshOf spanOf
 opened = 0
 
-abbrev bits : ℕ → Float
+abbrev pub bits : ℕ → Float
 bits = ofBits binary32
 
 abbrev floats : List ℕ → List Float
@@ -63,17 +62,17 @@ pairs ts = map pattern (spread two ts)
 abbrev still : Placement
 still = record { scale = choice.Absent; turn = turn.Absent; offset = choice.Absent }
 
-abbrev default : Choice
+abbrev pub default : Choice
 default = option.With 255
 
-abbrev jobOf : Choice → Choice → HeightRange → Fringe → Customs → Origin → HeightMap
+abbrev pub jobOf : Choice → Choice → HeightRange → Fringe → Customs → Origin → HeightMap
 jobOf caps sides range f u o =
     record { caps = caps; sides = sides; range = range; fringe = f; customs = u; placement = still; origin = o }
 
-abbrev bare : HeightMap
+abbrev pub bare : HeightMap
 bare = jobOf default default heights.OfAll fringe.Bare customs.Absent origin.Centred
 
-abbrev fringed : HeightMap
+abbrev pub fringed : HeightMap
 fringed = jobOf default default heights.OfAll fringe.Listed customs.Absent origin.Centred
 
 abbrev ranged : ℕ → ℕ → HeightMap
@@ -92,7 +91,7 @@ ends =
     ∷ 0xbf00_0000 ∷ 0x3f80_0000 ∷ 0xbf80_0000 ∷ 0 ∷ 0xbf80_0000 ∷ 0 ∷ 0xbf00_0000 ∷ 0xbf80_0000
     ∷ 0xbf00_0000 ∷ 0xbf80_0000 ∷ 0x3f00_0000 ∷ 0xbf80_0000 ∷ 0x3f00_0000 ∷ 0xbf80_0000 ∷ 0x3f80_0000 ∷ 0 ∷ []
 
-abbrev cell : ℕ → ℕ → ℕ → List Float
+abbrev pub cell : ℕ → ℕ → ℕ → List Float
 cell h x z = floats (h ∷ x ∷ z ∷ ends)
 
 -- the corners of every cap, and others with -0 wherever a 0 can stand
@@ -106,13 +105,13 @@ abbrev alone : List ℕ
 alone = each (λ d. nobody) 6
 
 -- two cells, each the other's neighbour at one side
-abbrev linked : List ℕ
+abbrev pub linked : List ℕ
 linked = 1 ∷ nobody ∷ nobody ∷ nobody ∷ nobody ∷ nobody ∷ nobody ∷ nobody ∷ nobody ∷ 0 ∷ nobody ∷ nobody ∷ []
 
-abbrev pair : ℕ → ℕ → Grid
+abbrev pub pair : ℕ → ℕ → Grid
 pair a b = grid (cell a 0 0 ++ cell b 0x3fc0_0000 0x3f40_0000) linked []
 
-abbrev plainly : Grid → Lists
+abbrev pub plainly : Grid → Lists
 plainly g = lists g [] corners [] []
 
 -- ---- C2: equal neighbours make no side, 1 lower makes one
@@ -248,7 +247,7 @@ unfolding opened
 customs-chosen = (refl, refl, refl, refl, refl)
 
 -- ---- 1, 2, 3 in their order, each with the faults of those behind it; a list that is not given is not read
-abbrev faulty : ℕ → ℕ → ℕ → List Float → Lists
+abbrev pub faulty : ℕ → ℕ → ℕ → List Float → Lists
 faulty n h x fs = lists (grid (cell h 0 0) (n ∷ each (λ d. nobody) 5) fs) [] (each (λ i. f0) x) [] []
 
 pub refusals :

@@ -1,6 +1,8 @@
 -- The cells of a height map as they are lent, the range of their heights, and why a side is there or is not; B11 to B16
 -- are rows of docs/TRACE.md. Definitions only.
 use Prim.Native.Nat.{ℕ, zero, suc, _+_, _*_, _/_}
+use mathlib.Core.Path.{_≡_}
+use mathlib.Core.Logic.{_⊎_}
 use mathlib.Core.Bool.{Bool, true, false, cond}
 use mathlib.Core.List.{List}
 use denote.Ref.{now}
@@ -119,3 +121,25 @@ footOf SidesOff = nan
 footOf NothingBeyond = nan
 footOf (AsHigh beyond) = beyond
 footOf (Present beyond) = beyond
+
+-- ---- B13 in words
+abbrev pub On : Choice → Type 0
+On option.Absent = ⊥
+On (option.With o) = Unit {0}
+
+-- x is the height beyond a side that has no neighbour, and beyond any side
+abbrev pub BeyondEdge : Fringe → Grid → ℕ → ℕ → Float → Type 0
+BeyondEdge fringe.Bare g k d x = ⊥
+BeyondEdge fringe.Listed g k d x = x ≡ fringeAt (g .fringe) k d
+
+abbrev pub Beyond : Fringe → Grid → ℕ → ℕ → Float → Type 0
+Beyond f g k d x =
+    let n = neighbourAt (g .neighbours) k d in
+    ((n ≡ nobody → ⊥) × (x ≡ heightAt (g .cells) n)) ⊎ ((n ≡ nobody) × BeyondEdge f g k d x)
+
+-- sides are on, and the height beyond exists and is below the cell's
+pub record Lower (job : HeightMap) (g : Grid) (k d : ℕ) : Type 0 where
+  pub on : On (job .sides)
+  pub height : Float
+  pub beyond : Beyond (job .fringe) g k d height
+  pub below : lt height (heightAt (g .cells) k) ≡ true

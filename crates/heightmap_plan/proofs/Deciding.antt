@@ -1,7 +1,6 @@
 -- What the tests of a map decide, one after the other. Assumes nothing.
 use mathlib.Core.Path.{_≡_, refl, sym, ap, ap₂, _∙_}
 use mathlib.Core.Bool.{Bool, true, false, _&&_}
-use Prim.Native.Nat.{ℕ}
 use lib.ListN.{length}
 use Rattle.face.specs.declared.triangle.Counts.{Counts}
 use Rattle.answer.specs.declared.answer.Refusal.the-variants.{Shape, Range, Neighbour}
@@ -9,6 +8,7 @@ use Rattle.answer.specs.declared.answer.Answer.{Answer}
 use Rattle.answer.specs.declared.answer.Answer.the-variants.{Refused}
 use Rattle.answer.specs.Answers.{given}
 use Rattle.answer.specs.Checks.{exactly, cellCount}
+use Rattle.answer.proofs.Laws.{&&-left}
 use Rattle.placement.specs.Options.{entryCount, isTable}
 use Rattle.buffers.specs.Mesh.{measure}
 use Rattle.heightmap.specs.declared.HeightMap.{HeightMap}
@@ -20,10 +20,6 @@ use Rattle.heightmap.proofs.Counts.{map-counts}
 use Rattle.heightmap_plan.specs.declared.tally.Tally.{Tally}
 use Rattle.heightmap_plan.specs.Walking.{tallyOf}
 
-left : (x y : Bool) → x && y ≡ true → x ≡ true
-left true y e = refl
-left false y e = e
-
 module _ (job : HeightMap) (ls : Lists) where
   abbrev three : Bool → Bool → Bool → Answer → Answer
   three s r l rest = given s Shape (given r Range (given l Neighbour rest))
@@ -31,8 +27,8 @@ module _ (job : HeightMap) (ls : Lists) where
   pub few-cells : shapeOf job ls ≡ true → cellCount (cellsIn (ls .grid .cells)) ≡ true
   few-cells e =
       let n = cellsIn (ls .grid .cells) in
-      left (cellCount n) (exactly (length (ls .grid .cells)) n 27 && (exactly (length (ls .grid .neighbours)) n 6 && fringeShape (job .fringe) (ls .grid .fringe) n))
-      (left (gridShape job (ls .grid)) (exactly (length (ls .corners)) 6 2 && (isTable (ls .numbers) (ls .marks) && allNamed job ls (entryCount (ls .marks)))) e)
+      &&-left (cellCount n) (exactly (length (ls .grid .cells)) n 27 && (exactly (length (ls .grid .neighbours)) n 6 && fringeShape (job .fringe) (ls .grid .fringe) n))
+      (&&-left (gridShape job (ls .grid)) (exactly (length (ls .corners)) 6 2 && (isTable (ls .numbers) (ls .marks) && allNamed job ls (entryCount (ls .marks)))) e)
 
   pub all-counted : (t : Tally) → shapeOf job ls ≡ true → t ≡ tallyOf job ls → t .counts ≡ mapCounts job ls
   all-counted t e p = ap (λ (x : Tally). x .counts) p ∙ rw (few-cells e)

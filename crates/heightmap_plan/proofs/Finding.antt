@@ -1,39 +1,41 @@
 -- The face of a number: in a cell, and in the map by the cell that a walk has found. Assumes nothing.
 use mathlib.Core.Path.{_≡_, refl, sym, ap, ap₂, subst, _∙_}
 use mathlib.Core.Logic.{_⊎_, inl, inr}
-use mathlib.Core.Bool.{Bool, true, false, cond}
-use mathlib.Core.List.{List, [], _∷_, _++_, map}
+use mathlib.Core.Bool.{Bool, true, false, _&&_, cond}
+use mathlib.Core.List.{[], _∷_, _++_, map}
 use Prim.Native.Nat.{ℕ, zero, suc, _+_, _*_, _-_, _<_, _≤_}
 use native.Mathlib.Omega.{arith}
 use borrow.Author.Tests.{leb-true, leb-false}
-use lib.Dec.{leb}
-use lib.ListN.{length, getD, take, length-append, length-map, List·getD-eq-default}
+use lib.Dec.{leb, ltb}
+use lib.ListN.{length, getD, length-append, length-map, List·getD-eq-default}
 use lib.Seq.{take-all, getD-append-add}
 use Rattle.face.specs.declared.triangle.Counts.{Counts}
 use Rattle.face.specs.Lists.{chain}
+use Rattle.answer.specs.Checks.{cellCount}
 use Rattle.placement.specs.declared.options.Choice.{Choice}
 use Rattle.placement.specs.declared.options.Choice.the-variants as option
-use Rattle.buffers.specs.Mesh.{Mesh, none, also, sizeOf, measure, startOf, summed}
-use Rattle.buffers.proofs.Windows.{also-assoc, also-none, none-also}
+use Rattle.buffers.specs.Mesh.{none, also, measure, startOf, summed}
+use Rattle.buffers.proofs.Windows.{also-assoc, also-none}
 use Rattle.buffers.proofs.Named.{chain-name, chain-start, start-right}
-use Rattle.heightmap.specs.declared.Name.{Name}
 use Rattle.heightmap.specs.declared.Name.the-variants.{Cap, Side}
 use Rattle.heightmap.specs.declared.HeightMap.{HeightMap}
 use Rattle.heightmap.specs.Grid.{Grid, cellsIn, wall, present}
 use Rattle.heightmap.specs.HeightMap.{Lists, capNames, sideNames, cellNames, mapNames, meshOf, mapFaces}
-use Rattle.heightmap.specs.Counts.{capCounts, sideCounts, cellCounts, cellStart, mapCounts}
-use Rattle.heightmap.specs.Names.{nameAt, startBy, facesBefore}
+use Rattle.heightmap.specs.Counts.{capCounts, sideCounts, cellStart}
+use Rattle.heightmap.specs.Names.{nameAt, startBy, facesBefore, numberOf}
 use Rattle.heightmap.proofs.Counts.{cap-sum, sides-sum, cells-sum, map-counts}
+use Rattle.heightmap_plan.specs.declared.tally.Goal.{Goal}
+use Rattle.heightmap_plan.specs.declared.tally.Goal.the-variants.{Face, Cell}
 use Rattle.heightmap_plan.specs.declared.tally.Tally.{Tally}
 use Rattle.heightmap_plan.specs.declared.tally.Walls.{Walls}
 use Rattle.heightmap_plan.specs.declared.tally.Walk.{Walk}
-use Rattle.heightmap_plan.specs.Walking.{tallyTo, marked, walked, capsIn, markedWalls, walkedWalls, wallsTo}
-use Rattle.heightmap_plan.specs.Finding.{foundBy, foundIn, foundInSides, foundInCell}
+use Rattle.heightmap_plan.specs.Walking.{tallyTo, tallyOf, upTo, marked, walked, capsIn, markedWalls, walkedWalls}
+use Rattle.heightmap_plan.specs.Finding.{foundBy, foundIn, foundInSides, foundInCell, placedBy, placedAt}
 use Rattle.heightmap_plan.proofs.Walking.{Small, cells-small, walked-all, walk-counted, map-counted, caps-more, faces-by-walls}
 
 -- ---- how many faces lie before a cell, by its walls
-marked-walls-all : (c : Choice) (w : Walls) (k i : ℕ) → markedWalls c w k i .all ≡ w .all
-marked-walls-all c w k i = go (leb (capsIn c k + w .all) i)
+marked-walls-all : (c : Choice) (w : Walls) (k : ℕ) (goal : Goal) → markedWalls c w k goal .all ≡ w .all
+marked-walls-all c w k goal = go (upTo goal k (capsIn c k + w .all))
   where
     go : (b : Bool) → cond b (record { all = w .all; cell = k; before = w .all }) w .all ≡ w .all
     go true = refl
@@ -43,13 +45,13 @@ no-caps : (c : Choice) → 0 ≡ capsIn c 0 + 0
 no-caps option.Absent = refl
 no-caps (option.With o) = refl
 
-pub faces-walked : (job : HeightMap) (g : Grid) (i k : ℕ) → facesBefore job g k ≡ capsIn (job .caps) k + walkedWalls (job .caps) (job .sides) (job .fringe) g i k .all
-faces-walked job g i zero = no-caps (job .caps)
-faces-walked job g i (suc k) =
-    let w = walkedWalls (job .caps) (job .sides) (job .fringe) g i k in
+pub faces-walked : (job : HeightMap) (g : Grid) (goal : Goal) (k : ℕ) → facesBefore job g k ≡ capsIn (job .caps) k + walkedWalls (job .caps) (job .sides) (job .fringe) g goal k .all
+faces-walked job g goal zero = no-caps (job .caps)
+faces-walked job g goal (suc k) =
+    let w = walkedWalls (job .caps) (job .sides) (job .fringe) g goal k in
     let a = length-append (chain (cellNames job g) k) (cellNames job g k) in
-    let b = marked-walls-all (job .caps) w k i in
-    let e = faces-walked job g i k in
+    let b = marked-walls-all (job .caps) w k goal in
+    let e = faces-walked job g goal k in
     let f = faces-by-walls job g k in
     let h = caps-more (job .caps) k in
     omega arith
@@ -106,7 +108,46 @@ module _ (job : HeightMap) (ls : Lists) (k : ℕ) where
       ∙ ap (also from) (ap (λ (x : Counts). also x (startOf (map f s) i)) (sym (cap-sum job ls k)) ∙ sym (start-right f c s i)))
       ∙ ap (λ (j : ℕ). foundInCell job ls k j from) (sym e)
 
--- ---- in the map: the cell that the walk has found
+-- ---- what lies before a cell that is looked for by its own number
+module _ (job : HeightMap) (ls : Lists) (c : ℕ) where
+  cell-before : (n : ℕ) → c < n → walked job ls (Cell c) n .before ≡ tallyTo job ls c
+  cell-before zero h = absurd (let u : c < 0 = h in omega arith)
+  cell-before (suc n) h = go (leb n c) refl (cell-before n)
+    where
+      w : Walk
+      w = walked job ls (Cell c) n
+
+      go : (b : Bool) → leb n c ≡ b → (c < n → w .before ≡ tallyTo job ls c) → cond b (record { all = w .all; cell = n; before = w .all }) w .before ≡ tallyTo job ls c
+      go true e earlier = let u = leb-true n c e in let s : n ≡ c = omega arith in walked-all job ls (Cell c) n ∙ ap (tallyTo job ls) s
+      go false e earlier = earlier (leb-false n c e)
+
+  pub side-before : (n : ℕ) (w : Walk) → w ≡ walked job ls (Cell c) n → c < n → n ≤ 65536
+      → ((c ≤ 65536) × (w .before .faces ≤ 458752)) × (w .before .faces ≡ facesBefore job (ls .grid) c)
+  side-before n w e h m =
+      let f : w .before .faces ≡ facesBefore job (ls .grid) c = ap (λ (v : Walk). v .before .faces) e ∙ ap (λ (t : Tally). t .faces) (cell-before n h) in
+      let s = cells-small job ls c in
+      ((omega arith, omega (arith, s .faces)), f)
+
+  pub all-walked : (n : ℕ) (w : Walk) → w ≡ walked job ls (Cell c) n → n ≡ cellsIn (ls .grid .cells) → cellCount (cellsIn (ls .grid .cells)) ≡ true → w .all ≡ tallyOf job ls
+  all-walked n w e p f = map-counted job ls (Cell c) n w e p ∙ sym (rw f)
+
+-- the number of a side, of a cell that is there and of one that is not
+module _ (job : HeightMap) (ls : Lists) (k d : ℕ) (t : Tally) (e : t ≡ tallyOf job ls) where
+  pub side-placed : (m : ℕ) → cellCount (cellsIn (ls .grid .cells)) ≡ true → ltb k (cellsIn (ls .grid .cells)) ≡ true → m ≡ numberOf job (ls .grid) (Side k d)
+      → placedBy t m ≡ placedAt job ls k d
+  side-placed m f h p = ap₂ placedBy e (p ∙ sym (rw (f, h)))
+
+  pub no-cell : ltb k (cellsIn (ls .grid .cells)) ≡ false → placedBy t 0 ≡ placedAt job ls k d
+  no-cell h = ap₂ placedBy e (go (cellCount (cellsIn (ls .grid .cells))))
+    where
+      go : (b : Bool) → 0 ≡ cond (b && ltb k (cellsIn (ls .grid .cells))) (numberOf job (ls .grid) (Side k d)) 0
+      go true = rw h
+      go false = refl
+
+  pub too-many : cellCount (cellsIn (ls .grid .cells)) ≡ false → placedBy t 0 ≡ placedAt job ls k d
+  too-many f = ap₂ placedBy e (rw f)
+
+-- ---- in the map: the cell of the face that the walk has found
 pub record Located (job : HeightMap) (ls : Lists) (i k : ℕ) (w : Walk) : Type 0 where
   pub before : w .before ≡ tallyTo job ls (w .cell)
   pub low : facesBefore job (ls .grid) (w .cell) ≤ i
@@ -114,7 +155,7 @@ pub record Located (job : HeightMap) (ls : Lists) (i k : ℕ) (w : Walk) : Type 
   pub high : (k ≤ suc (w .cell)) ⊎ (i < facesBefore job (ls .grid) (suc (w .cell)))
 
 module _ (job : HeightMap) (ls : Lists) (i : ℕ) where
-  mark-located : (k : ℕ) (w : Walk) → w .all ≡ tallyTo job ls k → Located job ls i k w → Located job ls i (suc k) (marked w k i)
+  mark-located : (k : ℕ) (w : Walk) → w .all ≡ tallyTo job ls k → Located job ls i k w → Located job ls i (suc k) (marked w k (Face i))
   mark-located k w a h = go (leb (w .all .faces) i) refl
     where
       same : w .all .faces ≡ facesBefore job (ls .grid) k
@@ -139,18 +180,18 @@ module _ (job : HeightMap) (ls : Lists) (i : ℕ) where
       go true e = record { before = a; low = (let u = leb-true (w .all .faces) i e in omega (arith, same)); within = omega arith; high = inl (omega arith) }
       go false e = record { before = h .before; low = h .low; within = (let u = h .within in omega arith); high = reach (let u = leb-false (w .all .faces) i e in omega (arith, same)) (h .high) }
 
-  pub located : (k : ℕ) → Located job ls i k (walked job ls i k)
+  pub located : (k : ℕ) → Located job ls i k (walked job ls (Face i) k)
   located zero = record { before = refl; low = omega arith; within = omega arith; high = inl (omega arith) }
   located (suc k) =
-      let h = mark-located k (walked job ls i k) (walked-all job ls i k) (located k) in
+      let h = mark-located k (walked job ls (Face i) k) (walked-all job ls (Face i) k) (located k) in
       record { before = h .before; low = h .low; within = h .within; high = h .high }
 
-module _ (job : HeightMap) (ls : Lists) (i n : ℕ) (w : Walk) (e : w ≡ walked job ls i n) (p : n ≡ cellsIn (ls .grid .cells)) where
+module _ (job : HeightMap) (ls : Lists) (i n : ℕ) (w : Walk) (e : w ≡ walked job ls (Face i) n) (p : n ≡ cellsIn (ls .grid .cells)) where
   here : Located job ls i n w
   here = subst (λ (v : Walk). Located job ls i n v) (sym e) (located job ls i n)
 
   all-faces : w .all .faces ≡ facesBefore job (ls .grid) n
-  all-faces = ap (λ (t : Tally). t .faces) (walk-counted job ls i n w e)
+  all-faces = ap (λ (t : Tally). t .faces) (walk-counted job ls (Face i) n w e)
 
   before-faces : w .before .faces ≡ facesBefore job (ls .grid) (w .cell)
   before-faces = ap (λ (t : Tally). t .faces) (here .before)
@@ -170,7 +211,7 @@ module _ (job : HeightMap) (ls : Lists) (i n : ℕ) (w : Walk) (e : w ≡ walked
   -- no such face
   pub none-found : w .all .faces ≤ i → foundBy (Cap 0) (w .all .counts) ≡ foundBy (nameAt job (ls .grid) i) (startBy job ls i)
   none-found h =
-      let all = map-counted job ls i n w e p in
+      let all = map-counted job ls (Face i) n w e p in
       let m : length (mapNames job (ls .grid)) ≤ i = omega (arith, ap (λ (t : Tally). t .faces) all) in
       ap₂ foundBy
       (sym (List·getD-eq-default (mapNames job (ls .grid)) (Cap 0) m))

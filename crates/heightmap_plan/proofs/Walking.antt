@@ -1,13 +1,10 @@
 -- A walk over the cells of a map: what it counts, how great that can be, and which cell it finds. Assumes nothing.
 use mathlib.Core.Path.{_≡_, refl, sym, ap, ap₂, subst, _∙_}
-use mathlib.Core.Logic.{_⊎_, inl, inr}
 use mathlib.Core.Bool.{Bool, true, false, cond}
-use mathlib.Core.List.{List, [], _∷_, _++_}
-use Prim.Native.Nat.{ℕ, zero, suc, _+_, _*_, _<_, _≤_}
+use mathlib.Core.List.{[], _∷_}
+use Prim.Native.Nat.{ℕ, zero, suc, _+_, _*_, _≤_}
 use native.Mathlib.Nat.{add-mul, mul-le-mul}
 use native.Mathlib.Omega.{arith}
-use borrow.Author.Tests.{leb-true, leb-false}
-use lib.Dec.{leb}
 use lib.Ieee.{Float, lt}
 use lib.ListN.{length, length-append}
 use Rattle.face.specs.declared.inset.Inset.{Inset}
@@ -23,14 +20,14 @@ use Rattle.heightmap.specs.declared.Fringe.the-variants as fringe
 use Rattle.heightmap.specs.declared.Customs.the-variants as customs
 use Rattle.heightmap.specs.declared.HeightMap.{HeightMap}
 use Rattle.heightmap.specs.declared.Name.the-variants.{Cap, Side}
+use Rattle.heightmap_plan.specs.declared.tally.Goal.{Goal}
 use Rattle.heightmap_plan.specs.declared.tally.Tally.{Tally}
 use Rattle.heightmap_plan.specs.declared.tally.Walls.{Walls}
 use Rattle.heightmap_plan.specs.declared.tally.Walk.{Walk}
 use Rattle.heightmap.specs.Grid.{Grid, cellsIn, heightAt, fringeAt, against, edgeBy, wallBy, wall, present}
 use Rattle.heightmap.specs.HeightMap.{Lists, capNames, sideNames, cellNames, mapNames, optionOf}
 use Rattle.heightmap.specs.Counts.{sizeBy, ifOn, capCounts, sideCounts, mapCounts}
-use Rattle.heightmap.specs.Names.{facesBefore}
-use Rattle.heightmap_plan.specs.Walking.{tallyBy, both, capTally, sideTally, sidesTally, cellTally, tallyTo, marked, walked, added, oneIf, edgeStands, wallsTo, capsIn, markedWalls, walkedWalls, many, ownCap, ownWall, ownTally, ownWalk}
+use Rattle.heightmap_plan.specs.Walking.{tallyBy, both, capTally, sideTally, sidesTally, cellTally, tallyTo, upTo, marked, walked, oneIf, edgeStands, wallsTo, capsIn, markedWalls, walkedWalls, many, ownCap, ownWall, ownTally, ownWalk}
 
 -- ---- at most so many faces, each with at most 50 vertices and 50 indices
 pub record Small (m : ℕ) (t : Tally) : Type 0 where
@@ -90,22 +87,22 @@ module _ (job : HeightMap) (ls : Lists) where
   cells-small (suc k) = rw (← cells-more k) (let s = small-both (cells-small k) (cell-small k) in record { faces = omega arith; vertices = omega arith; indices = omega arith })
 
 -- ---- what the walk has counted
-pub marked-all : (w : Walk) (k i : ℕ) → marked w k i .all ≡ w .all
-marked-all w k i = go (leb (w .all .faces) i)
+pub marked-all : (w : Walk) (k : ℕ) (goal : Goal) → marked w k goal .all ≡ w .all
+marked-all w k goal = go (upTo goal k (w .all .faces))
   where
     go : (b : Bool) → cond b (record { all = w .all; cell = k; before = w .all }) w .all ≡ w .all
     go true = refl
     go false = refl
 
-module _ (job : HeightMap) (ls : Lists) (i : ℕ) where
-  pub walked-all : (k : ℕ) → walked job ls i k .all ≡ tallyTo job ls k
+module _ (job : HeightMap) (ls : Lists) (goal : Goal) where
+  pub walked-all : (k : ℕ) → walked job ls goal k .all ≡ tallyTo job ls k
   walked-all zero = refl
-  walked-all (suc k) = ap (λ (t : Tally). both t (cellTally job ls k)) (marked-all (walked job ls i k) k i ∙ walked-all k) ∙ cells-more job ls k
+  walked-all (suc k) = ap (λ (t : Tally). both t (cellTally job ls k)) (marked-all (walked job ls goal k) k goal ∙ walked-all k) ∙ cells-more job ls k
 
-  pub walk-small : (k : ℕ) (w m : Walk) → w ≡ walked job ls i k → m ≡ marked w k i → Small (7 * k) (m .all)
+  pub walk-small : (k : ℕ) (w m : Walk) → w ≡ walked job ls goal k → m ≡ marked w k goal → Small (7 * k) (m .all)
   walk-small k w m p q =
       subst (λ (t : Tally). Small (7 * k) t)
-      (sym (ap (λ (v : Walk). v .all) q ∙ marked-all w k i ∙ ap (λ (v : Walk). v .all) p ∙ walked-all k))
+      (sym (ap (λ (v : Walk). v .all) q ∙ marked-all w k goal ∙ ap (λ (v : Walk). v .all) p ∙ walked-all k))
       (cells-small job ls k)
 
 -- ---- the walls alone
@@ -137,17 +134,17 @@ pub record FewWalls (k : ℕ) (w : Walls) : Type 0 where
   pub cell : w .cell ≤ k
   pub before : w .before ≤ 6 * k
 
-pub marked-few : (c : Choice) (w : Walls) (k i : ℕ) → FewWalls k w → FewWalls k (markedWalls c w k i)
-marked-few c w k i h = go (leb (capsIn c k + w .all) i)
+pub marked-few : (c : Choice) (w : Walls) (k : ℕ) (goal : Goal) → FewWalls k w → FewWalls k (markedWalls c w k goal)
+marked-few c w k goal h = go (upTo goal k (capsIn c k + w .all))
   where
     go : (b : Bool) → FewWalls k (cond b (record { all = w .all; cell = k; before = w .all }) w)
     go true = record { all = h .all; cell = omega arith; before = h .all }
     go false = h
 
-pub walls-few : (c s : Choice) (how : Fringe) (g : Grid) (i k : ℕ) → FewWalls k (walkedWalls c s how g i k)
-walls-few c s how g i zero = record { all = omega arith; cell = omega arith; before = omega arith }
-walls-few c s how g i (suc k) =
-    let h = marked-few c (walkedWalls c s how g i k) k i (walls-few c s how g i k) in
+pub walls-few : (c s : Choice) (how : Fringe) (g : Grid) (goal : Goal) (k : ℕ) → FewWalls k (walkedWalls c s how g goal k)
+walls-few c s how g goal zero = record { all = omega arith; cell = omega arith; before = omega arith }
+walls-few c s how g goal (suc k) =
+    let h = marked-few c (walkedWalls c s how g goal k) k goal (walls-few c s how g goal k) in
     let m = walls-most s how g k 6 in
     record { all = omega arith; cell = omega arith; before = omega arith }
 
@@ -170,6 +167,9 @@ no-caps (option.With o) = refl
 pub caps-most : (c : Choice) (k : ℕ) → capsIn c k ≤ k
 caps-most option.Absent k = omega arith
 caps-most (option.With o) k = omega arith
+
+pub caps-few : (c : Choice) (k r : ℕ) → r ≡ capsIn c k → r ≤ k
+caps-few c k r e = omega (arith, e, caps-most c k)
 
 pub faces-by-walls : (job : HeightMap) (g : Grid) (k : ℕ) → length (cellNames job g k) ≡ length (capNames (job .caps) k) + wallsTo (job .sides) (job .fringe) g k 6
 faces-by-walls job g k = length-append (capNames (job .caps) k) (chain (sideNames job g k) 6) ∙ ap (λ (n : ℕ). length (capNames (job .caps) k) + n) (side-length job g k 6)
@@ -218,12 +218,12 @@ module _ (job : HeightMap) (ls : Lists) (e : job .customs ≡ customs.Absent) wh
   own-none : ownTally job ls 0 0 ≡ tallyBy 0 none
   own-none = rw (no-caps (job .caps)) (ap (tallyBy 0) (ap₂ counts (omega arith) (omega arith)))
 
-  pub own-walk : (i k : ℕ) → ownWalk job ls (walkedWalls (job .caps) (job .sides) (job .fringe) (ls .grid) i k) k ≡ walked job ls i k
-  own-walk i zero = rw own-none
-  own-walk i (suc k) = go (leb (capsIn (job .caps) k + w .all) i) ∙ ap (λ (v : Walk). grownBy (marked v k i)) (own-walk i k)
+  pub own-walk : (goal : Goal) (k : ℕ) → ownWalk job ls (walkedWalls (job .caps) (job .sides) (job .fringe) (ls .grid) goal k) k ≡ walked job ls goal k
+  own-walk goal zero = rw own-none
+  own-walk goal (suc k) = go (upTo goal k (capsIn (job .caps) k + w .all)) ∙ ap (λ (v : Walk). grownBy (marked v k goal)) (own-walk goal k)
     where
       w : Walls
-      w = walkedWalls (job .caps) (job .sides) (job .fringe) (ls .grid) i k
+      w = walkedWalls (job .caps) (job .sides) (job .fringe) (ls .grid) goal k
 
       grownBy : Walk → Walk
       grownBy v = record { all = both (v .all) (cellTally job ls k); cell = v .cell; before = v .before }
@@ -247,9 +247,9 @@ many-few n c h q =
     let b : n * c .indices .0 ≤ 393216 * 50 = mul-le-mul h (q .1) in
     (omega arith, omega arith)
 
-module _ (job : HeightMap) (ls : Lists) (i n : ℕ) (w : Walk) (e : w ≡ walked job ls i n) where
+module _ (job : HeightMap) (ls : Lists) (goal : Goal) (n : ℕ) (w : Walk) (e : w ≡ walked job ls goal n) where
   pub walk-counted : w .all ≡ tallyTo job ls n
-  walk-counted = ap (λ (v : Walk). v .all) e ∙ walked-all job ls i n
+  walk-counted = ap (λ (v : Walk). v .all) e ∙ walked-all job ls goal n
 
   -- all cells
   pub map-counted : n ≡ cellsIn (ls .grid .cells) → w .all ≡ tallyBy (length (mapNames job (ls .grid))) (mapCounts job ls)

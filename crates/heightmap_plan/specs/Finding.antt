@@ -1,8 +1,9 @@
 -- Which face a number is and where it starts, guarded by the number of cells so that no sum wraps on lists that are not
 -- tested; R12 and R16 are rows of docs/TRACE.md. Definitions only.
 use Prim.Native.Nat.{ℕ}
-use mathlib.Core.Bool.{cond}
+use mathlib.Core.Bool.{_&&_, cond}
 use mathlib.Core.List.{List, [], map}
+use lib.Dec.{ltb}
 use lib.ListN.{length, getD}
 use Rattle.face.specs.declared.triangle.Counts.{Counts}
 use Rattle.face.specs.Lists.{chain}
@@ -19,6 +20,7 @@ use Rattle.heightmap.specs.Tests.{planned}
 use Rattle.heightmap.specs.Names.{nameAt, startBy, numberOf}
 use Rattle.heightmap_plan.specs.declared.names.Found.{Found}
 use Rattle.heightmap_plan.specs.declared.names.Survey.{Survey}
+use Rattle.heightmap_plan.specs.declared.names.Placed.{Placed}
 use Rattle.heightmap_plan.specs.declared.window.Sought.{Sought}
 use Rattle.heightmap_plan.specs.declared.tally.Tally.{Tally}
 use Rattle.heightmap_plan.specs.Walking.{tallyOf}
@@ -55,6 +57,16 @@ cellOf (Side k d) = k
 
 abbrev pub numberIn : HeightMap → Grid → Name → ℕ
 numberIn job g n = cond (cellCount (cellOf n)) (numberOf job g n) 0
+
+-- all faces, and the number that a side has where it stands; 0 where its cell is none, or there are too many
+abbrev pub placedBy : Tally → ℕ → Placed
+placedBy t n = record { all = t; number = n }
+
+abbrev pub sideNumber : HeightMap → Grid → ℕ → ℕ → ℕ
+sideNumber job g k d = cond (cellCount (cellsIn (g .cells)) && ltb k (cellsIn (g .cells))) (numberOf job g (Side k d)) 0
+
+abbrev pub placedAt : HeightMap → Lists → ℕ → ℕ → Placed
+placedAt job ls k d = placedBy (tallyOf job ls) (sideNumber job (ls .grid) k d)
 
 -- R12: what a face call answers before the room is asked for
 abbrev pub numbered : HeightMap → Lists → ℕ → Answer

@@ -1,5 +1,5 @@
--- How a map's faces are counted in one walk over its cells, which also finds the cell of a face by its number: speed alone
--- asks for it, and proofs/Walking.antt says that it comes to the counts and the names. Definitions only.
+-- How a map's faces are counted in one walk over its cells, which also finds a cell: that of a face, or one by its number.
+-- Speed alone asks for it, and proofs/Walking.antt says that it comes to the counts and the names. Definitions only.
 use Prim.Native.Nat.{ℕ, zero, suc, _+_, _*_}
 use mathlib.Core.Bool.{Bool, false, cond}
 use mathlib.Core.List.{List}
@@ -17,6 +17,8 @@ use Rattle.buffers.specs.Mesh.{none, also, summed}
 use Rattle.heightmap.specs.declared.Fringe.{Fringe}
 use Rattle.heightmap.specs.declared.Fringe.the-variants as fringe
 use Rattle.heightmap.specs.declared.HeightMap.{HeightMap}
+use Rattle.heightmap_plan.specs.declared.tally.Goal.{Goal}
+use Rattle.heightmap_plan.specs.declared.tally.Goal.the-variants.{Face, Cell}
 use Rattle.heightmap_plan.specs.declared.tally.Tally.{Tally}
 use Rattle.heightmap_plan.specs.declared.tally.Walls.{Walls}
 use Rattle.heightmap_plan.specs.declared.tally.Walk.{Walk}
@@ -54,19 +56,23 @@ abbrev pub tallyOf : HeightMap → Lists → Tally
 tallyOf job ls =
     cond (cellCount (cellsIn (ls .grid .cells))) (tallyBy (length (mapNames job (ls .grid))) (mapCounts job ls)) (tallyBy 0 none)
 
--- ---- the walk: all so far, and the last cell with no more faces before it than a number, with what lies before it
+-- ---- the walk: all so far, and the last cell at or before what is looked for, with what lies before it
+abbrev pub upTo : Goal → ℕ → ℕ → Bool
+upTo (Face number) k faces = leb faces number
+upTo (Cell cell) k faces = leb k cell
+
 abbrev pub walkBy : Tally → ℕ → Tally → Walk
 walkBy all cell before = record { all = all; cell = cell; before = before }
 
-abbrev pub marked : Walk → ℕ → ℕ → Walk
-marked w k number = cond (leb (w .all .faces) number) (walkBy (w .all) k (w .all)) w
+abbrev pub marked : Walk → ℕ → Goal → Walk
+marked w k goal = cond (upTo goal k (w .all .faces)) (walkBy (w .all) k (w .all)) w
 
 abbrev pub grown : Walk → Tally → Walk
 grown w t = walkBy (both (w .all) t) (w .cell) (w .before)
 
-abbrev pub walked : HeightMap → Lists → ℕ → ℕ → Walk
-walked job ls number zero = walkBy (tallyBy 0 none) 0 (tallyBy 0 none)
-walked job ls number (suc k) = grown (marked (walked job ls number k) k number) (cellTally job ls k)
+abbrev pub walked : HeightMap → Lists → Goal → ℕ → Walk
+walked job ls goal zero = walkBy (tallyBy 0 none) 0 (tallyBy 0 none)
+walked job ls goal (suc k) = grown (marked (walked job ls goal k) k goal) (cellTally job ls k)
 
 -- ---- where no face has an option of its own, the walls are counted and their counts multiplied
 abbrev pub added : (ℕ → ℕ) → ℕ → ℕ
@@ -92,16 +98,16 @@ capsIn (option.With o) k = k
 abbrev pub wallsBy : ℕ → ℕ → ℕ → Walls
 wallsBy all cell before = record { all = all; cell = cell; before = before }
 
-abbrev pub markedWalls : Choice → Walls → ℕ → ℕ → Walls
-markedWalls caps w k number = cond (leb (capsIn caps k + w .all) number) (wallsBy (w .all) k (w .all)) w
+abbrev pub markedWalls : Choice → Walls → ℕ → Goal → Walls
+markedWalls caps w k goal = cond (upTo goal k (capsIn caps k + w .all)) (wallsBy (w .all) k (w .all)) w
 
 abbrev pub grownWalls : Walls → ℕ → Walls
 grownWalls w n = wallsBy (w .all + n) (w .cell) (w .before)
 
-abbrev pub walkedWalls : Choice → Choice → Fringe → Grid → ℕ → ℕ → Walls
-walkedWalls caps sides how g number zero = wallsBy 0 0 0
-walkedWalls caps sides how g number (suc k) =
-    grownWalls (markedWalls caps (walkedWalls caps sides how g number k) k number) (wallsTo sides how g k 6)
+abbrev pub walkedWalls : Choice → Choice → Fringe → Grid → Goal → ℕ → Walls
+walkedWalls caps sides how g goal zero = wallsBy 0 0 0
+walkedWalls caps sides how g goal (suc k) =
+    grownWalls (markedWalls caps (walkedWalls caps sides how g goal k) k goal) (wallsTo sides how g k 6)
 
 abbrev pub many : ℕ → Counts → Counts
 many n c = counts (n * c .vertices .0) (n * c .indices .0)

@@ -7,7 +7,8 @@ ghost use Rattle.heightmap.specs.Grid.{grid, lentGrid};
 ghost use Rattle.heightmap.specs.HeightMap.{lentForCounts, sideNames, cellNames};
 ghost use Rattle.heightmap.specs.declared.Name.the-variants.{Cap, Side};
 ghost use Rattle.heightmap.specs.Names.{facesBefore, numberOf};
-ghost use Rattle.heightmap_plan.specs.Finding.{surveyBy, foundBy, foundInSides, foundInCell, foundAt, surveyOf, faceCount, numberIn};
+ghost use Rattle.heightmap_plan.specs.Finding.{surveyBy, foundBy, foundInSides, foundInCell, foundAt, surveyOf, placedAt, faceCount, numberIn};
+use crate::tally::Goal;
 use face::triangle::Counts;
 use heightmap::HeightMap;
 use heightmap::Name;
@@ -21,6 +22,12 @@ pub struct Found {
 pub struct Survey {
     pub all: crate::tally::Tally,
     pub found: Found,
+}
+
+// All faces, and the number of a side.
+pub struct Placed {
+    pub all: crate::tally::Tally,
+    pub number: usize,
 }
 
 fn find_side(
@@ -139,7 +146,7 @@ pub fn survey_faces(
     if answer::check::is_cell_count(n) {
         let w = crate::tally::walk_cells(
             job,
-            number,
+            Goal::Face(number),
             n,
             cells,
             neighbours,
@@ -215,7 +222,16 @@ fn faces_before(
     let caps = job.caps;
     let sides = job.sides;
     let how = job.fringe;
-    let w = crate::tally::walk_walls(caps, sides, how, 0, k, cells, neighbours, fringe);
+    let w = crate::tally::walk_walls(
+        caps,
+        sides,
+        how,
+        Goal::Cell(0), // no matter which
+        k,
+        cells,
+        neighbours,
+        fringe,
+    );
     crate::tally::caps_in(caps, k) + w.all
 }
 
@@ -230,23 +246,25 @@ pub fn face_count(job: HeightMap, cells: &[f32], neighbours: &[u32], fringe: &[f
     0
 }
 
-fn number_of_side(
+// The number of a side, by what lies before its cell: the cap and the sides before it follow.
+fn number_after(
     job: HeightMap,
+    from: usize,
     k: usize,
     d: u8,
     cells: &[f32],
     neighbours: &[u32],
     fringe: &[f32],
 ) -> usize
-    requires { ⌜ k ≤ 65536 ⌝ }
+    requires { ⌜ (k ≤ 65536) × (from ≤ 458752) ⌝ }
+    requires { ⌜ from ≡ facesBefore job (grid (now cells) (now neighbours) (now fringe)) k ⌝ }
     ensures { λ r. ⌜ r ≡ numberOf job (lentGrid cells neighbours fringe) (Side k d) ⌝ }
 {
     let caps = job.caps;
     let sides = job.sides;
     let how = job.fringe;
-    let before = faces_before(job, k, cells, neighbours, fringe);
     let walls = crate::tally::cell_walls(sides, how, cells, neighbours, fringe, k, d);
-    before + (crate::tally::caps_in(caps, 1) + walls)
+    from + (crate::tally::caps_in(caps, 1) + walls)
 }
 
 // The number of a face that is there; 0 where the number of its cell is above 65,536.
@@ -268,9 +286,57 @@ pub fn number_of(
         }
         Name::Side(k, d) => {
             if answer::check::is_cell_count(k) {
-                return number_of_side(job, k, d, cells, neighbours, fringe);
+                let before = faces_before(job, k, cells, neighbours, fringe);
+                return number_after(job, before, k, d, cells, neighbours, fringe);
             }
             0
         }
+    }
+}
+
+// One walk counts all faces and those before a cell.
+pub fn survey_side(
+    job: HeightMap,
+    k: usize,
+    d: u8,
+    cells: &[f32],
+    neighbours: &[u32],
+    fringe: &[f32],
+    customs: &[u8],
+    numbers: &[f32],
+    marks: &[u8],
+) -> Placed
+    ensures { λ r. ⌜ r ≡ placedAt job (lentForCounts cells neighbours fringe customs numbers marks) k d ⌝ }
+{
+    let n = heightmap::grid::cells_in(cells);
+    if answer::check::is_cell_count(n) {
+        let w = crate::tally::walk_cells(
+            job,
+            Goal::Cell(k),
+            n,
+            cells,
+            neighbours,
+            fringe,
+            customs,
+            numbers,
+            marks,
+        );
+        let all = w.all;
+        let before = w.before;
+        if k < n {
+            let number = number_after(job, before.faces, k, d, cells, neighbours, fringe);
+            return Placed {
+                all: all,
+                number: number,
+            };
+        }
+        return Placed {
+            all: all,
+            number: 0,
+        };
+    }
+    Placed {
+        all: crate::tally::nothing(),
+        number: 0,
     }
 }

@@ -1,5 +1,5 @@
-// How many faces a map has and what they take, in one walk over its cells, which also finds the cell of a face by its
-// number.
+// How many faces a map has and what they take, in one walk over its cells, which also finds a cell: that of a face, or
+// one by its number.
 ghost use mathlib.Core.Path.{_≡_};
 ghost use mathlib.Core.Bool.{cond};
 ghost use mathlib.Core.List.{[]};
@@ -12,7 +12,7 @@ ghost use Rattle.heightmap.specs.Grid.{lentGrid, nobody, besideBy, present};
 ghost use Rattle.heightmap.specs.Grid.{grid};
 ghost use Rattle.heightmap.specs.HeightMap.{lists, lentForCounts, lentForOptions};
 ghost use Rattle.heightmap.specs.Counts.{cellStart};
-ghost use Rattle.heightmap_plan.specs.Walking.{tallyBy, both, capTally, sideTally, cellTally, tallyOf, marked, grown, walked};
+ghost use Rattle.heightmap_plan.specs.Walking.{tallyBy, both, capTally, sideTally, cellTally, tallyOf, upTo, marked, grown, walked};
 ghost use Rattle.heightmap_plan.specs.Walking.{added, oneIf, edgeStands, wallsTo, capsIn, markedWalls, grownWalls, walkedWalls, many, ownTally, ownWalk};
 use face::triangle::Counts;
 use face::triangle::IndexPlace;
@@ -25,7 +25,13 @@ pub struct Tally {
     pub counts: Counts,
 }
 
-// Of the first cells all faces; and the last cell with no more faces before it than a number, with what lies before it.
+// What a walk looks for: the cell of a face, by the face's number, or a cell by its own.
+pub enum Goal {
+    Face(usize),
+    Cell(usize),
+}
+
+// Of the first cells all faces; and the cell that is looked for, or the last before it, with what lies before that.
 pub struct Walk {
     pub all: Tally,
     pub cell: usize,
@@ -175,11 +181,21 @@ fn cell_tally(
     join(cap_tally(job, k, customs, numbers, marks), t)
 }
 
-fn mark(w: Walk, k: usize, number: usize) -> Walk
-    ensures { λ r. ⌜ r ≡ marked w k number ⌝ }
+// Whether a cell, with so many faces before it, lies at or before what is looked for.
+fn is_up_to(goal: Goal, k: usize, faces: usize) -> bool
+    ensures { λ r. ⌜ r ≡ upTo goal k faces ⌝ }
+{
+    match goal {
+        Goal::Face(number) => faces <= number,
+        Goal::Cell(cell) => k <= cell,
+    }
+}
+
+fn mark(w: Walk, k: usize, goal: Goal) -> Walk
+    ensures { λ r. ⌜ r ≡ marked w k goal ⌝ }
 {
     let all = w.all;
-    if all.faces <= number {
+    if is_up_to(goal, k, all.faces) {
         return Walk {
             all: all,
             cell: k,
@@ -207,7 +223,7 @@ fn grow(w: Walk, t: Tally) -> Walk
 // Face by face, each with its own option.
 fn walk_faces(
     job: heightmap::HeightMap,
-    number: usize,
+    goal: Goal,
     n: usize,
     cells: &[f32],
     neighbours: &[u32],
@@ -217,7 +233,7 @@ fn walk_faces(
     marks: &[u8],
 ) -> Walk
     requires { ⌜ n ≤ 65536 ⌝ }
-    ensures { λ r. ⌜ r ≡ walked job (lentForCounts cells neighbours fringe customs numbers marks) number n ⌝ }
+    ensures { λ r. ⌜ r ≡ walked job (lentForCounts cells neighbours fringe customs numbers marks) goal n ⌝ }
 {
     let mut w = Walk {
         all: nothing(),
@@ -225,7 +241,7 @@ fn walk_faces(
         before: nothing(),
     };
     for k in 0usize..n {
-        let m = mark(w, k, number);
+        let m = mark(w, k, goal);
         w = grow(
             m,
             cell_tally(job, k, cells, neighbours, fringe, customs, numbers, marks),
@@ -340,11 +356,11 @@ pub(crate) fn caps_in(caps: Choice, k: usize) -> usize
     }
 }
 
-fn mark_walls(caps: Choice, w: Walls, k: usize, number: usize) -> Walls
+fn mark_walls(caps: Choice, w: Walls, k: usize, goal: Goal) -> Walls
     requires { ⌜ (k ≤ 65536) × (w .all ≤ 393216) ⌝ }
-    ensures { λ r. ⌜ r ≡ markedWalls caps w k number ⌝ }
+    ensures { λ r. ⌜ r ≡ markedWalls caps w k goal ⌝ }
 {
-    if caps_in(caps, k) + w.all <= number {
+    if is_up_to(goal, k, caps_in(caps, k) + w.all) {
         return Walls {
             all: w.all,
             cell: k,
@@ -370,14 +386,14 @@ pub(crate) fn walk_walls(
     caps: Choice,
     sides: Choice,
     how: heightmap::Fringe,
-    number: usize,
+    goal: Goal,
     n: usize,
     cells: &[f32],
     neighbours: &[u32],
     fringe: &[f32],
 ) -> Walls
     requires { ⌜ n ≤ 65536 ⌝ }
-    ensures { λ r. ⌜ r ≡ walkedWalls caps sides how (lentGrid cells neighbours fringe) number n ⌝ }
+    ensures { λ r. ⌜ r ≡ walkedWalls caps sides how (lentGrid cells neighbours fringe) goal n ⌝ }
 {
     let mut w = Walls {
         all: 0,
@@ -385,7 +401,7 @@ pub(crate) fn walk_walls(
         before: 0,
     };
     for k in 0usize..n {
-        let m = mark_walls(caps, w, k, number);
+        let m = mark_walls(caps, w, k, goal);
         w = grow_walls(m, cell_walls(sides, how, cells, neighbours, fringe, k, 6));
     }
     w
@@ -430,10 +446,10 @@ fn walk_own(job: heightmap::HeightMap, w: Walls, n: usize, numbers: &[f32], mark
     }
 }
 
-// The first n cells, and the cell of a number among them.
+// The first n cells, and the one among them that is looked for.
 pub(crate) fn walk_cells(
     job: heightmap::HeightMap,
-    number: usize,
+    goal: Goal,
     n: usize,
     cells: &[f32],
     neighbours: &[u32],
@@ -443,7 +459,7 @@ pub(crate) fn walk_cells(
     marks: &[u8],
 ) -> Walk
     requires { ⌜ n ≤ 65536 ⌝ }
-    ensures { λ r. ⌜ r ≡ walked job (lentForCounts cells neighbours fringe customs numbers marks) number n ⌝ }
+    ensures { λ r. ⌜ r ≡ walked job (lentForCounts cells neighbours fringe customs numbers marks) goal n ⌝ }
 {
     let how = job.customs;
     let caps = job.caps;
@@ -451,12 +467,12 @@ pub(crate) fn walk_cells(
     let edge = job.fringe;
     match how {
         heightmap::Customs::Absent => {
-            let w = walk_walls(caps, sides, edge, number, n, cells, neighbours, fringe);
+            let w = walk_walls(caps, sides, edge, goal, n, cells, neighbours, fringe);
             walk_own(job, w, n, numbers, marks)
         }
         heightmap::Customs::Listed => walk_faces(
             job,
-            number,
+            goal,
             n,
             cells,
             neighbours,
@@ -484,7 +500,7 @@ pub fn tally_all(
     if answer::check::is_cell_count(n) {
         let w = walk_cells(
             job,
-            0,
+            Goal::Cell(0), // no matter which: all is asked for
             n,
             cells,
             neighbours,
@@ -514,7 +530,7 @@ pub fn cell_start(
     if answer::check::is_cell_count(k) {
         let w = walk_cells(
             job,
-            0,
+            Goal::Cell(0), // no matter which
             k,
             cells,
             neighbours,

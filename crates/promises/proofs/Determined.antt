@@ -40,6 +40,7 @@ use Rattle.boundary.proofs as boundary
 use Rattle.column_builder.proofs as column_builder
 use Rattle.heightmap.proofs as heightmap
 use Rattle.heightmap_plan.proofs as heightmap_plan
+use Rattle.heightmap_why.proofs as heightmap_why
 use Rattle.heightmap_faces.proofs as heightmap_faces
 use Rattle.heightmap_laying.proofs as heightmap_laying
 use Rattle.heightmap_builder.proofs as heightmap_builder
@@ -508,6 +509,12 @@ boundary-to-c-faces-to-c κs a x y v w p q = (determined p q, refl)
 pub boundary-to-c-window-to-c : Fixes boundary.to_c.window_to_c.ended boundary.to_c.window_to_c.Reads.Learnt
 boundary-to-c-window-to-c κs a x y v w p q = (determined p q, refl)
 
+pub boundary-to-c-why-to-c : Fixes boundary.to_c.why_to_c.ended boundary.to_c.why_to_c.Reads.Learnt
+boundary-to-c-why-to-c κs a x y v w p q = (determined p q, refl)
+
+pub boundary-to-c-which-to-c : Fixes boundary.to_c.which_to_c.ended boundary.to_c.which_to_c.Reads.Learnt
+boundary-to-c-which-to-c κs a x y v w p q = (determined p q, refl)
+
 pub boundary-jobs-is-fringe : Fixes boundary.jobs.is_fringe.ended boundary.jobs.is_fringe.Reads.Learnt
 boundary-jobs-is-fringe κs a x y v w p q = (determined p q, refl)
 
@@ -655,6 +662,9 @@ heightmap-plan-names-face-count κs a x y v w p q = (determined p q, refl)
 pub heightmap-plan-names-number-of : Fixes heightmap_plan.names.number_of.ended heightmap_plan.names.number_of.Reads.Learnt
 heightmap-plan-names-number-of κs a x y v w p q = (determined p q, refl)
 
+pub heightmap-plan-names-survey-side : Fixes heightmap_plan.names.survey_side.ended heightmap_plan.names.survey_side.Reads.Learnt
+heightmap-plan-names-survey-side κs a x y v w p q = (determined p q, refl)
+
 pub heightmap-plan-window-faces : Fixes heightmap_plan.window.faces.ended heightmap_plan.window.faces.Reads.Learnt
 heightmap-plan-window-faces κs a x y v w p q = (determined p q, refl)
 
@@ -663,6 +673,31 @@ heightmap-plan-window-seek κs a x y v w p q = (determined p q, refl)
 
 pub heightmap-plan-window-window : Fixes heightmap_plan.window.window.ended heightmap_plan.window.window.Reads.Learnt
 heightmap-plan-window-window κs a x y v w p q = (determined p q, refl)
+
+-- ---- heightmap_why
+pub heightmap-why-reason-code : Fixes heightmap_why.reason_code.ended heightmap_why.reason_code.Reads.Learnt
+heightmap-why-reason-code κs a x y v w p q = (determined p q, refl)
+
+pub heightmap-why-reason-height : Fixes heightmap_why.reason_height.ended heightmap_why.reason_height.Reads.Learnt
+heightmap-why-reason-height κs a x y v w p q = (determined p q, refl)
+
+pub heightmap-why-reason-face : Fixes heightmap_why.reason_face.ended heightmap_why.reason_face.Reads.Learnt
+heightmap-why-reason-face κs a x y v w p q = (determined p q, refl)
+
+pub heightmap-why-kind-code : Fixes heightmap_why.kind_code.ended heightmap_why.kind_code.Reads.Learnt
+heightmap-why-kind-code κs a x y v w p q = (determined p q, refl)
+
+pub heightmap-why-cell-of : Fixes heightmap_why.cell_of.ended heightmap_why.cell_of.Reads.Learnt
+heightmap-why-cell-of κs a x y v w p q = (determined p q, refl)
+
+pub heightmap-why-side-of : Fixes heightmap_why.side_of.ended heightmap_why.side_of.Reads.Learnt
+heightmap-why-side-of κs a x y v w p q = (determined p q, refl)
+
+pub heightmap-why-why : Fixes heightmap_why.why.ended heightmap_why.why.Reads.Learnt
+heightmap-why-why κs a x y v w p q = (determined p q, refl)
+
+pub heightmap-why-which : Fixes heightmap_why.which.ended heightmap_why.which.Reads.Learnt
+heightmap-why-which κs a x y v w p q = (determined p q, refl)
 
 -- ---- sheet
 pub sheet-write-answer : Fixes sheet.write_answer.ended sheet.write_answer.Reads.Learnt
@@ -767,6 +802,12 @@ exports-maps-hosirekar-heightmap-faces κs a x y v w p q = (determined p q, refl
 
 pub exports-maps-hosirekar-heightmap-window : Fixes exports.maps.hosirekar_heightmap_window.ended exports.maps.hosirekar_heightmap_window.Reads.Learnt
 exports-maps-hosirekar-heightmap-window κs a x y v w p q = (determined p q, refl)
+
+pub exports-maps-hosirekar-heightmap-why : Fixes exports.maps.hosirekar_heightmap_why.ended exports.maps.hosirekar_heightmap_why.Reads.Learnt
+exports-maps-hosirekar-heightmap-why κs a x y v w p q = (determined p q, refl)
+
+pub exports-maps-hosirekar-heightmap-which : Fixes exports.maps.hosirekar_heightmap_which.ended exports.maps.hosirekar_heightmap_which.Reads.Learnt
+exports-maps-hosirekar-heightmap-which κs a x y v w p q = (determined p q, refl)
 
 pub exports-maps-hosirekar-heightmap-build : Fixes exports.maps.hosirekar_heightmap_build.ended exports.maps.hosirekar_heightmap_build.Reads.Learnt
 exports-maps-hosirekar-heightmap-build κs a x y v w p q = let e = determined (p .1) (q .1) in (determined (p .0) (q .0), λ i. (tt, (tt, (tt, (tt, (tt, (tt, (tt, (tt, (e i .vertices, (e i .normals, (e i .uvs, (e i .indices, tt)))))))))))))

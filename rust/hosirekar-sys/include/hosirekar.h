@@ -10,6 +10,8 @@
  * counts are 0 and every buffer is as it was. A refusal for room names the first buffer that is short and
  * tells its need.
  *
+ * A height map tells why a wall is missing, and which cap or side a face's number stands for.
+ *
  * A mesh is written as a binary STL file to bytes in memory, and read back from them.
  *
  * What is assumed, for no call tests it:
@@ -30,9 +32,9 @@
 extern "C" {
 #endif
 
-/* The number of an answer: done, or the first fault in the order 1, 2, 3, 4, 6, 51 to 54 (of a merge 1, 7, 4,
- * 51 to 54; of a stored mesh 1, 2, 4, 8; of a file written 1, 4, 7, 10, 55, and of one read 11, 4,
- * 51 to 54). */
+/* The number of an answer: done, or the first fault in the order 1, 2, 3, 4, 6, 51 to 54 (of what is told of a
+ * wall or a face 1, 2, 3, 4, 6; of a merge 1, 7, 4, 51 to 54; of a stored mesh 1, 2, 4, 8; of a file written 1, 4, 7,
+ * 10, 55, and of one read 11, 4, 51 to 54). */
 enum HosirekarNumber {
     HOSIREKAR_DONE = 0,           /* The counts are those of the mesh. */
     HOSIREKAR_SHAPE = 1,          /* A list's length, a limit, an option's number or a mark is wrong. */
@@ -43,13 +45,27 @@ enum HosirekarNumber {
     HOSIREKAR_ROOM_NORMALS = 52,  /* The normals buffer is the first that is too short for the whole mesh. */
     HOSIREKAR_ROOM_UVS = 53,      /* The uvs buffer is the first that is too short for the whole mesh. */
     HOSIREKAR_ROOM_INDICES = 54,  /* The indices buffer is the first that is too short for the whole mesh. */
-    HOSIREKAR_NO_FACE = 6,        /* There is no face of that number. */
+    HOSIREKAR_NO_FACE = 6,        /* There is no face of that number, or no such cell or side. */
     HOSIREKAR_INDEX = 7,          /* A mesh merged or written has an index that names none of its vertices. */
     HOSIREKAR_EMPTY = 8,          /* The middle of no vertices is asked for. */
     HOSIREKAR_SHEET = 9,          /* A sheet does not read; only the program `panel` answers so. */
     HOSIREKAR_TRIANGLES = 10,     /* Indices are not three a triangle, or there are 2^32 triangles or more. */
     HOSIREKAR_FILE = 11,          /* A file is shorter than 84 bytes, or not as long as its count says. */
     HOSIREKAR_BYTES = 55          /* The byte buffer is too short for the whole file. */
+};
+
+/* Why a side of a height map is there or missing, in the order in which it is tested. */
+enum HosirekarReason {
+    HOSIREKAR_SIDES_OFF = 1,      /* The job has no sides. */
+    HOSIREKAR_NOTHING_BEYOND = 2, /* There is no neighbour and no fringe height. */
+    HOSIREKAR_AS_HIGH = 3,        /* The neighbour, or else the fringe, is as high as the cell or higher. */
+    HOSIREKAR_PRESENT = 4         /* The side is there. */
+};
+
+/* What a face of a height map is. */
+enum HosirekarKind {
+    HOSIREKAR_CAP = 1, /* The cap of a cell. */
+    HOSIREKAR_SIDE = 2 /* A side of a cell. */
 };
 
 /* The option that names no entry of the table: a plain face, or among a map's customs the job's own. */
@@ -151,6 +167,22 @@ typedef struct HosirekarWindow {
     size_t vertices;
     size_t indices;
 } HosirekarWindow;
+
+/* An answer, and why a side of a height map is there or missing. All else is 0 or +0 where the call was refused. */
+typedef struct HosirekarWhy {
+    HosirekarAnswer answer;
+    uint32_t reason; /* a HosirekarReason */
+    float height;    /* beside HOSIREKAR_AS_HIGH, that of the neighbour or the fringe; else +0 */
+    size_t face;     /* beside HOSIREKAR_PRESENT, the number of the side's face; else 0 */
+} HosirekarWhy;
+
+/* An answer, and which face of a height map has a number. All else is 0 where the call was refused. */
+typedef struct HosirekarWhich {
+    HosirekarAnswer answer;
+    uint32_t kind; /* a HosirekarKind */
+    uint32_t side; /* which side of the cell; 0 of a cap */
+    size_t cell;
+} HosirekarWhich;
 
 /* Which components of a uv are mirrored. */
 typedef struct HosirekarFlip {
@@ -464,6 +496,33 @@ HosirekarFaces hosirekar_heightmap_faces(
 
 /* The places of one face of a height map, or why it is refused: as a plan is, and then with 6. */
 HosirekarWindow hosirekar_heightmap_window(
+    HosirekarHeightMap job,
+    const float *cells, size_t cells_len,
+    const uint32_t *neighbours, size_t neighbours_len,
+    const float *fringe, size_t fringe_len,
+    const uint8_t *customs, size_t customs_len,
+    const float *corners, size_t corners_len,
+    const float *numbers, size_t numbers_len,
+    const uint8_t *marks, size_t marks_len,
+    size_t number);
+
+/* Why a side of a cell is there or missing, or why the call is refused: as a plan is, even where a reason could be
+ * told, and then with 6 for a cell or a side that is not there. Of the reasons, the first in their order that holds. A
+ * height that is equal to the cell's counts as high, and 0 and -0 are equal. */
+HosirekarWhy hosirekar_heightmap_why(
+    HosirekarHeightMap job,
+    const float *cells, size_t cells_len,
+    const uint32_t *neighbours, size_t neighbours_len,
+    const float *fringe, size_t fringe_len,
+    const uint8_t *customs, size_t customs_len,
+    const float *corners, size_t corners_len,
+    const float *numbers, size_t numbers_len,
+    const uint8_t *marks, size_t marks_len,
+    size_t cell,
+    size_t side);
+
+/* Which cap or side a face's number stands for, or why the call is refused: as a plan is, and then with 6. */
+HosirekarWhich hosirekar_heightmap_which(
     HosirekarHeightMap job,
     const float *cells, size_t cells_len,
     const uint32_t *neighbours, size_t neighbours_len,

@@ -408,6 +408,78 @@ pub fn hosirekar_heightmap_window(
     }
 }
 
+/// Why a side of a cell of a height map is there or missing, with its face's number if it is there.
+#[inline]
+pub fn hosirekar_heightmap_why(
+    job: CHeightMap,
+    cells: &[f32],
+    neighbours: &[u32],
+    fringe: &[f32],
+    customs: &[u8],
+    corners: &[f32],
+    numbers: &[f32],
+    marks: &[u8],
+    cell: usize,
+    side: usize,
+) -> CWhy {
+    unsafe {
+        raw::hosirekar_heightmap_why(
+            job,
+            cells.as_ptr(),
+            cells.len(),
+            neighbours.as_ptr(),
+            neighbours.len(),
+            fringe.as_ptr(),
+            fringe.len(),
+            customs.as_ptr(),
+            customs.len(),
+            corners.as_ptr(),
+            corners.len(),
+            numbers.as_ptr(),
+            numbers.len(),
+            marks.as_ptr(),
+            marks.len(),
+            cell,
+            side,
+        )
+    }
+}
+
+/// Which cap or side of a height map the face of a number is.
+#[inline]
+pub fn hosirekar_heightmap_which(
+    job: CHeightMap,
+    cells: &[f32],
+    neighbours: &[u32],
+    fringe: &[f32],
+    customs: &[u8],
+    corners: &[f32],
+    numbers: &[f32],
+    marks: &[u8],
+    number: usize,
+) -> CWhich {
+    unsafe {
+        raw::hosirekar_heightmap_which(
+            job,
+            cells.as_ptr(),
+            cells.len(),
+            neighbours.as_ptr(),
+            neighbours.len(),
+            fringe.as_ptr(),
+            fringe.len(),
+            customs.as_ptr(),
+            customs.len(),
+            corners.as_ptr(),
+            corners.len(),
+            numbers.as_ptr(),
+            numbers.len(),
+            marks.as_ptr(),
+            marks.len(),
+            number,
+        )
+    }
+}
+
 /// A whole height map, written to four buffers, or nothing.
 #[inline]
 pub fn hosirekar_heightmap_build(

@@ -224,6 +224,45 @@ unsafe extern "C" {
         number: usize,
     ) -> CWindow;
 
+    pub fn hosirekar_heightmap_why(
+        job: CHeightMap,
+        cells: *const f32,
+        cells_len: usize,
+        neighbours: *const u32,
+        neighbours_len: usize,
+        fringe: *const f32,
+        fringe_len: usize,
+        customs: *const u8,
+        customs_len: usize,
+        corners: *const f32,
+        corners_len: usize,
+        numbers: *const f32,
+        numbers_len: usize,
+        marks: *const u8,
+        marks_len: usize,
+        cell: usize,
+        side: usize,
+    ) -> CWhy;
+
+    pub fn hosirekar_heightmap_which(
+        job: CHeightMap,
+        cells: *const f32,
+        cells_len: usize,
+        neighbours: *const u32,
+        neighbours_len: usize,
+        fringe: *const f32,
+        fringe_len: usize,
+        customs: *const u8,
+        customs_len: usize,
+        corners: *const f32,
+        corners_len: usize,
+        numbers: *const f32,
+        numbers_len: usize,
+        marks: *const u8,
+        marks_len: usize,
+        number: usize,
+    ) -> CWhich;
+
     pub fn hosirekar_heightmap_build(
         job: CHeightMap,
         cells: *const f32,

@@ -114,6 +114,35 @@ pub struct CWindow {
     pub indices: usize,
 }
 
+/// An answer, and why a side of a height map is there or missing: all 0 or +0 where it was refused.
+#[repr(C)]
+#[derive(Clone, Copy, Debug, Default, PartialEq)]
+pub struct CWhy {
+    /// That of the plan, or 6; its counts are those of the whole job.
+    pub answer: CAnswer,
+    /// 1 if sides are off, 2 if there is no neighbour and no fringe height, 3 if the neighbour or the
+    /// fringe is as high or higher, 4 if the side is there. The first of these that holds.
+    pub reason: u32,
+    /// Beside 3 the height beyond the side; +0 beside every other reason.
+    pub height: f32,
+    /// Beside 4 the number of the side's face; 0 beside every other reason.
+    pub face: usize,
+}
+
+/// An answer, and which face of a height map has a number: all 0 where it was refused.
+#[repr(C)]
+#[derive(Clone, Copy, Debug, Default, PartialEq, Eq)]
+pub struct CWhich {
+    /// That of the plan, or 6; its counts are those of the whole job.
+    pub answer: CAnswer,
+    /// 1 for the cap of a cell, 2 for a side.
+    pub kind: u32,
+    /// Which side of the cell; 0 of a cap.
+    pub side: u32,
+    /// Which cell.
+    pub cell: usize,
+}
+
 /// A plane.
 #[repr(C)]
 #[derive(Clone, Copy, Debug, Default, PartialEq)]

@@ -110,6 +110,68 @@ static void call_load(void) {
     print_answer("too short", hosirekar_heightmap_load(records, 2, cells, 53, neighbours, 12));
 }
 
+static const char *reason_word(uint32_t reason) {
+    switch (reason) {
+    case HOSIREKAR_SIDES_OFF: return "sides off";
+    case HOSIREKAR_NOTHING_BEYOND: return "nothing beyond";
+    case HOSIREKAR_AS_HIGH: return "as high";
+    case HOSIREKAR_PRESENT: return "present";
+    }
+    return "no reason";
+}
+
+static const char *kind_word(uint32_t kind) {
+    switch (kind) {
+    case HOSIREKAR_CAP: return "cap";
+    case HOSIREKAR_SIDE: return "side";
+    }
+    return "no kind";
+}
+
+typedef struct Lists {
+    float cells[54];
+    uint32_t neighbours[12];
+} Lists;
+
+static void print_why(HosirekarHeightMap map, const Lists *of, size_t cell, size_t side) {
+    HosirekarWhy why = hosirekar_heightmap_why(map, of->cells, 54, of->neighbours, 12, NULL, 0, NULL, 0, corners, 12,
+                                               NULL, 0, NULL, 0, cell, side);
+    print_answer("why", why.answer);
+    printf("it: %s, %g, %lu\n", reason_word(why.reason), why.height, (unsigned long)why.face);
+}
+
+static void print_which(HosirekarHeightMap map, const Lists *of, size_t face) {
+    HosirekarWhich which = hosirekar_heightmap_which(map, of->cells, 54, of->neighbours, 12, NULL, 0, NULL, 0, corners,
+                                                     12, NULL, 0, NULL, 0, face);
+    print_answer("which", which.answer);
+    printf("it: %s %u of %lu\n", kind_word(which.kind), (unsigned)which.side, (unsigned long)which.cell);
+}
+
+/* Two cells, 1 and 2 high, each beyond a side of the other: side 0 of cell 0 and side 3 of cell 1. */
+static void call_walls(void) {
+    static Lists two;
+    HosirekarChoice given = {true, 255};
+    HosirekarVec3 none = {0, 0, 0};
+    HosirekarPlacement still = {{false, none}, {false, none, none, none}, {false, none}};
+    HosirekarHeightMap map = {given, given, false, HOSIREKAR_FRINGE_NONE, {false, 0, 0}, {false, {0, 0}}, still};
+    two.cells[0] = 1;
+    two.cells[27] = 2;
+    for (int side = 0; side < 12; side++)
+        two.neighbours[side] = HOSIREKAR_NO_CELL;
+    two.neighbours[0] = 1;
+    two.neighbours[9] = 0;
+    print_why(map, &two, 0, 0);
+    print_why(map, &two, 1, 3);
+    print_why(map, &two, 0, 5);
+    print_why(map, &two, 2, 3);
+    print_why(map, &two, 0, 256);
+    print_which(map, &two, 1);
+    print_which(map, &two, 2);
+    print_which(map, &two, 3);
+    map.sides.given = false;
+    print_why(map, &two, 0, 0);
+}
+
 static void print_bytes(const char *what, const uint8_t *bytes, int count) {
     printf("%s: ", what);
     for (int k = 0; k < count; k++)
@@ -152,6 +214,7 @@ int main(void) {
     call_numbers();
     call_jobs();
     call_load();
+    call_walls();
     call_stored();
     call_files();
     return 0;

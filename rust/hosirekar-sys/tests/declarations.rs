@@ -59,7 +59,7 @@ fn every_exported_function_is_declared_with_its_parameters() {
         .collect();
     let raw = ours("raw.rs").replace("pub safe fn", "pub fn");
     assert!(
-        wanted.len() >= 19,
+        wanted.len() >= 35,
         "{} functions are exported",
         wanted.len()
     );
@@ -103,6 +103,6 @@ fn tight(text: &str) -> String {
 fn every_struct_has_the_archives_fields_in_order() {
     let mark = "#[repr(C)] pub struct ";
     let wanted = structs(&archive(), mark);
-    assert!(wanted.len() >= 15, "{} structs are exported", wanted.len());
+    assert!(wanted.len() >= 25, "{} structs are exported", wanted.len());
     assert_eq!(wanted, structs(&underived(&ours("structs.rs")), mark));
 }

@@ -96,6 +96,27 @@ fn cases(text: &str, function: &str, kind: &str) -> Vec<(String, String)> {
     body.split(&format!("{kind}::")).skip(1).map(case).collect()
 }
 
+/// The numbers of reasons and of kinds of faces, from the functions that number them.
+fn told() -> [String; 2] {
+    let text = plain(&read(Path::new("../../crates/heightmap_why/src/lib.rt")));
+    let reasons = cases(&text, "reason_code", "Reason");
+    let kinds = cases(&text, "kind_code", "Name");
+    assert_eq!(
+        (reasons.len(), kinds.len()),
+        (4, 2),
+        "{reasons:?}, {kinds:?}"
+    );
+    let listed = |name: &str, cases: Vec<(String, String)>| {
+        let case = |(case, given)| format!("HOSIREKAR_{case} = {given}");
+        let cases: Vec<String> = cases.into_iter().map(case).collect();
+        format!("enum {name} {{ {} }}", cases.join(", "))
+    };
+    [
+        listed("HosirekarReason", reasons),
+        listed("HosirekarKind", kinds),
+    ]
+}
+
 /// The numbers of answers, from the functions that number the refusals and the buffers that are short.
 fn numbers() -> String {
     let text = plain(&read(Path::new("../../crates/answer/src/answer.rt")));
@@ -152,10 +173,10 @@ fn statements(text: &str) -> Vec<String> {
 #[test]
 fn the_header_declares_what_the_archive_has() {
     let (functions, structs) = (exported(), source_structs());
-    assert!(functions.len() >= 33 && structs.len() >= 23);
+    assert!(functions.len() >= 35 && structs.len() >= 25);
     let wanted = functions.iter().map(function);
     let wanted = wanted.chain(structs.iter().map(structure));
-    let wanted: BTreeSet<String> = wanted.chain([numbers()]).collect();
+    let wanted: BTreeSet<String> = wanted.chain([numbers()]).chain(told()).collect();
     let given = declared();
     let once: BTreeSet<String> = given.iter().cloned().collect();
     let missing: Vec<&String> = wanted.difference(&once).collect();
@@ -195,6 +216,8 @@ fn layouts() -> Vec<Layout> {
         CFile { answer bytes }
         CFaces { answer faces }
         CWindow { answer first_vertex first_index vertices indices }
+        CWhy { answer reason height face }
+        CWhich { answer kind side cell }
         CFlip { u v }
         CUvOptions { scale offset min max flip }
         CChoice { given option }

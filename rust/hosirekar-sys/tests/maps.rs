@@ -4,6 +4,7 @@
 mod common;
 use common::faults::*;
 use common::jobs::{HeightMap, Job, Table};
+use common::whys::{is_same_why, no_which, no_why};
 use common::*;
 use hosirekar_sys::*;
 
@@ -68,6 +69,7 @@ fn walls(n: usize) -> HeightMap {
 /// Every sort of call, in lists with room for so much, and in empty ones.
 fn hold_refused(map: &HeightMap, number: u32, room: Lengths, what: &str) {
     assert_eq!(map.plan(), refused(number), "{what}: plan");
+    hold_nothing_told(map, number, what);
     for lengths in [room, [0; 4]] {
         let known = Mesh::known(lengths);
         let mut mesh = known.clone();
@@ -77,6 +79,17 @@ fn hold_refused(map: &HeightMap, number: u32, room: Lengths, what: &str) {
             assert_eq!(answer, refused(number), "{what}: face {at}");
         }
         mesh.hold(&known, what);
+    }
+}
+
+/// What is told of walls and faces, there or not.
+fn hold_nothing_told(map: &HeightMap, number: u32, what: &str) {
+    for (cell, side) in [(0, 0), (0, 6), (usize::MAX, 0)] {
+        let why = map.why(cell, side);
+        assert!(is_same_why(why, no_why(number)), "{what}: {why:?}");
+    }
+    for face in [0, usize::MAX] {
+        assert_eq!(map.which(face), no_which(number), "{what}: face {face}");
     }
 }
 
@@ -312,19 +325,7 @@ fn option_faults() -> Vec<Fault<HeightMap>> {
 
 /// What is refused with 1.
 fn shape_faults() -> Vec<Fault<HeightMap>> {
-    let mut faults = table_faults(|m: &mut HeightMap| &mut m.table);
-    faults.extend(list_faults("cells", |m: &mut HeightMap| &mut m.cells));
-    faults.extend(list_faults("neighbours", |m: &mut HeightMap| {
-        &mut m.neighbours
-    }));
-    faults.extend(list_faults("fringe", |m: &mut HeightMap| &mut m.fringe));
-    faults.extend(list_faults("customs", |m: &mut HeightMap| &mut m.customs));
-    faults.extend(list_faults("corners", |m: &mut HeightMap| &mut m.corners));
-    faults.extend([0, 3, 255].map(|mark| {
-        fault(format!("fringe {mark}"), move |m: &mut HeightMap| {
-            m.job.fringe = mark
-        })
-    }));
+    let mut faults = map_faults();
     faults.extend(option_faults());
     faults
 }

@@ -44,6 +44,24 @@ its cells: 4 5 6 7 8 9 10 11
 past them: -1
 its neighbours: 0 1 4294967295
 too short: 1, 0 and 0, need 0
+why: 0, 16 and 30, need 0
+it: as high, 2, 0
+why: 0, 16 and 30, need 0
+it: present, 0, 2
+why: 0, 16 and 30, need 0
+it: nothing beyond, 0, 0
+why: 6, 0 and 0, need 0
+it: no reason, 0, 0
+why: 6, 0 and 0, need 0
+it: no reason, 0, 0
+which: 0, 16 and 30, need 0
+it: cap 0 of 1
+which: 0, 16 and 30, need 0
+it: side 3 of 1
+which: 6, 0 and 0, need 0
+it: no kind 0 of 0
+why: 0, 12 and 24, need 0
+it: sides off, 0, 0
 scale: 0, 3 and 3, need 0
 offset: 0, 2 and 2, need 0
 vertices: 1 10 100 7 10 100 0 18 36

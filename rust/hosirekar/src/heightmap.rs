@@ -19,6 +19,9 @@ use std::ops::RangeInclusive;
 /// neighbour, or of the [`fringe`](HeightMap::fringe) where there is no neighbour. All is scaled,
 /// then turned, then moved by the offset and by the origin, each if given.
 ///
+/// [`why`](HeightMap::why) tells of a side why it has no wall, and [`which`](HeightMap::which) what a
+/// face's number stands for.
+///
 /// [`from_heights`](HeightMap::from_heights) makes the cells from axial coordinates and a
 /// [`Layout`](crate::layout::Layout).
 ///
@@ -251,16 +254,16 @@ impl HeightMap {
 /// A [`HeightMap`] whose cells stand in the lists that the archive takes: [`HeightMap::ready`].
 #[derive(Clone, Debug)]
 pub struct ReadyHeightMap<'a> {
-    map: &'a HeightMap,
-    job: CHeightMap,
-    cells: Vec<[f32; 27]>,
-    neighbours: Vec<[u32; 6]>,
-    customs: Vec<[u8; 7]>,
-    table: Table<MOST_OPTIONS>,
+    pub(crate) map: &'a HeightMap,
+    pub(crate) job: CHeightMap,
+    pub(crate) cells: Vec<[f32; 27]>,
+    pub(crate) neighbours: Vec<[u32; 6]>,
+    pub(crate) customs: Vec<[u8; 7]>,
+    pub(crate) table: Table<MOST_OPTIONS>,
 }
 
 impl ReadyHeightMap<'_> {
-    fn fringe(&self) -> &[f32] {
+    pub(crate) fn fringe(&self) -> &[f32] {
         match &self.map.fringe {
             Fringe::None => &[],
             Fringe::Heights(heights) => heights.as_flattened(),

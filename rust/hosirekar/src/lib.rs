@@ -51,6 +51,23 @@
 //! # Ok::<(), Box<dyn std::error::Error>>(())
 //! ```
 //!
+//! # Missing walls
+//!
+//! [`HeightMap::why`] tells why a side of a cell has no wall, or the number of its face if it has one, and
+//! [`HeightMap::which`] which cap or side is behind a number. Both answers print in an operator's words.
+//!
+//! ```
+//! use hosirekar::{layout::Layout, Fringe, HeightMap};
+//!
+//! let mut map = HeightMap::from_heights(&Layout::flat(), [((0, 0), 2.0), ((1, 0), 1.0)])?;
+//! map.fringe = Fringe::None;
+//! assert_eq!(map.why(0, 0)?.to_string(), "the wall is there: face 1");
+//! assert_eq!(map.which(1)?.to_string(), "side 0 of cell 0");
+//! assert_eq!(map.why(1, 3)?.to_string(), "the neighbour is as high: 2.0");
+//! assert_eq!(map.why(1, 0)?.to_string(), "there is no neighbour and no fringe height");
+//! # Ok::<(), Box<dyn std::error::Error>>(())
+//! ```
+//!
 //! # Refusals
 //!
 //! No call panics and none half succeeds. A call that is refused says why with a [`Refusal`] and
@@ -132,6 +149,7 @@ mod plane;
 mod range;
 mod refusal;
 mod stl;
+mod why;
 
 pub use cheap_column::CheapColumn;
 pub use column::Column;
@@ -142,3 +160,4 @@ pub use options::{FaceOptions, InsetOptions, InsetScaleMode, Rect, UVOptions};
 pub use plane::Plane;
 pub use range::OutOfRange;
 pub use refusal::{Buffer, Refusal};
+pub use why::{Beyond, Face, Reason, Which, Why};

@@ -98,7 +98,8 @@ pub enum Refusal {
         /// where it is not known.
         need: usize,
     },
-    /// The job has no face of that number.
+    /// What is asked for by its number is not there: the job has no such face, the map no such cell, or the
+    /// cell no such side.
     NoFace,
     /// A mesh to be merged or written to a file has an index that is none of its vertices.
     Index,
@@ -203,7 +204,9 @@ impl fmt::Display for Refusal {
                 "more than 65,536 vertices, or the indices of more: ask for fewer faces, parts or insets, or for several meshes; of a file read at most 21,845 triangles"
             }
             Refusal::Room { buffer, need } => return write_room(f, *buffer, *need),
-            Refusal::NoFace => "the job has no face of that number: count its faces from 0",
+            Refusal::NoFace => {
+                "there is no face, cell or side of that number: count each from 0, and a cell's sides to 5"
+            }
             Refusal::Index => {
                 "an index of the mesh to be merged or written names no vertex: keep indices below its vertex count"
             }

@@ -95,6 +95,9 @@ fn a_map_that_is_ready_asks_for_no_memory() {
     assert_eq!(asked(|| map.build().unwrap()), 3 + 4);
     let (ready, mut mesh) = (map.ready(), map.build().unwrap());
     assert_eq!(asked(|| ready.plan().unwrap()), 0);
+    assert_eq!(asked(|| ready.why(2, 5).unwrap()), 0);
+    assert_eq!(asked(|| ready.which(13).unwrap()), 0);
+    assert_eq!(asked(|| map.why(2, 5).unwrap()), 3);
     assert_eq!(asked(|| ready.build_into(&mut mesh.buffers()).unwrap()), 0);
     assert_eq!(
         asked(|| ready.build_face(3, &mut mesh.buffers()).unwrap()),
@@ -109,6 +112,8 @@ fn a_refusal_asks_for_no_memory() {
     map.offset = Some([0.0, 0.0, f32::NAN]);
     let ready = map.ready();
     assert_eq!(asked(|| ready.plan().unwrap_err()), 0);
+    assert_eq!(asked(|| ready.why(0, 0).unwrap_err()), 0);
+    assert_eq!(asked(|| ready.which(0).unwrap_err()), 0);
     let mut mesh = plane().build().unwrap();
     assert_eq!(asked(|| mesh.add(&ready).unwrap_err()), 0);
     assert_eq!(asked(|| mesh.scale([f32::NAN; 3]).unwrap_err()), 0);

@@ -133,6 +133,17 @@ impl Numbered for HeightMap {
     fn held(&self, hold: impl Fn(&dyn Job)) {
         hold(self);
         hold(&self.ready());
+        nothing_is_told(self);
+    }
+}
+
+/// What a refused map tells of walls and faces, there or not, is why the plan is refused.
+fn nothing_is_told(map: &HeightMap) {
+    let (why, ready) = (map.plan().unwrap_err(), map.ready());
+    for at in [0, 999] {
+        assert_eq!((map.why(at, 0), map.why(0, at)), (Err(why), Err(why)));
+        assert_eq!((ready.why(at, 0), ready.why(0, at)), (Err(why), Err(why)));
+        assert_eq!((map.which(at), ready.which(at)), (Err(why), Err(why)));
     }
 }
 

@@ -7,7 +7,7 @@ use crate::map_zeros;
 use crate::maps::Map;
 use crate::ours::{Call, Job, Kind, counts, flat, placement, table, vec2};
 use glam::Vec2;
-use hosirekar_sys::{self as sys, CAnswer, CHeightMap, COrigin, CRange};
+use hosirekar_sys::{self as sys, CAnswer, CHeightMap, COrigin, CRange, CWhich, CWhy};
 
 /// What a map has beside corners and options.
 #[derive(Debug, Clone, Default)]
@@ -36,6 +36,51 @@ pub fn plan(job: CHeightMap, call: &Call) -> CAnswer {
         &call.corners,
         &call.numbers,
         &call.marks,
+    )
+}
+
+/// Why a side is there or missing.
+#[must_use]
+pub fn why(job: CHeightMap, call: &Call, cell: usize, side: usize) -> CWhy {
+    let Lists {
+        cells,
+        neighbours,
+        fringe,
+        customs,
+    } = &call.lists;
+    sys::hosirekar_heightmap_why(
+        job,
+        cells,
+        neighbours,
+        fringe,
+        customs,
+        &call.corners,
+        &call.numbers,
+        &call.marks,
+        cell,
+        side,
+    )
+}
+
+/// Which cap or side a number stands for.
+#[must_use]
+pub fn which(job: CHeightMap, call: &Call, face: usize) -> CWhich {
+    let Lists {
+        cells,
+        neighbours,
+        fringe,
+        customs,
+    } = &call.lists;
+    sys::hosirekar_heightmap_which(
+        job,
+        cells,
+        neighbours,
+        fringe,
+        customs,
+        &call.corners,
+        &call.numbers,
+        &call.marks,
+        face,
     )
 }
 

@@ -1,6 +1,6 @@
 //! What is wrong with a job: its lists, its table of options, and the numbers that it carries.
 
-use super::jobs::Table;
+use super::jobs::{HeightMap, Table};
 use hosirekar_sys::*;
 
 /// What makes a list or an option of a job wrong, and what to call it.
@@ -103,5 +103,23 @@ pub fn table_faults<J: 'static>(of: fn(&mut J) -> &mut Table) -> Vec<Fault<J>> {
             faults.push(fault(name, move |j| of(j).marks[mark] = value));
         }
     }
+    faults
+}
+
+/// The lists of a map, its table and its mark of a fringe.
+pub fn map_faults() -> Vec<Fault<HeightMap>> {
+    let mut faults = table_faults(|m: &mut HeightMap| &mut m.table);
+    faults.extend(list_faults("cells", |m: &mut HeightMap| &mut m.cells));
+    faults.extend(list_faults("neighbours", |m: &mut HeightMap| {
+        &mut m.neighbours
+    }));
+    faults.extend(list_faults("fringe", |m: &mut HeightMap| &mut m.fringe));
+    faults.extend(list_faults("customs", |m: &mut HeightMap| &mut m.customs));
+    faults.extend(list_faults("corners", |m: &mut HeightMap| &mut m.corners));
+    faults.extend([0, 3, 255].map(|mark| {
+        fault(format!("fringe {mark}"), move |m: &mut HeightMap| {
+            m.job.fringe = mark
+        })
+    }));
     faults
 }

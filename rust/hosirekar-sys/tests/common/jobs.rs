@@ -240,6 +240,38 @@ impl Job for HeightMap {
     }
 }
 
+/// What a map tells beyond what every job does.
+impl HeightMap {
+    pub fn why(&self, cell: usize, side: usize) -> CWhy {
+        hosirekar_heightmap_why(
+            self.job,
+            &self.cells,
+            &self.neighbours,
+            &self.fringe,
+            &self.customs,
+            &self.corners,
+            &self.table.numbers,
+            &self.table.marks,
+            cell,
+            side,
+        )
+    }
+
+    pub fn which(&self, number: usize) -> CWhich {
+        hosirekar_heightmap_which(
+            self.job,
+            &self.cells,
+            &self.neighbours,
+            &self.fringe,
+            &self.customs,
+            &self.corners,
+            &self.table.numbers,
+            &self.table.marks,
+            number,
+        )
+    }
+}
+
 impl Job for CheapColumn {
     fn plan(&self) -> CAnswer {
         hosirekar_cheap_column_plan(self.job, &self.corners)

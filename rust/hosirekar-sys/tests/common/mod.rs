@@ -7,6 +7,8 @@ pub mod merges;
 pub mod samples;
 pub mod stl;
 pub mod stl_draws;
+pub mod why_draws;
+pub mod whys;
 
 use hosirekar_sys::{hosirekar_merge, CAnswer, CCounts};
 use std::fmt::Display;

@@ -16,6 +16,7 @@ number-of-spec =
     (λ c. search needs)
     (λ c κs. search needs)
     (λ c κs. leb-true _ _ (sym (c .before .is-cell-count2 .ensures) ∙ c .if2 .taken))
-    (λ c. rw (c .before .before .before .before .name2 .given .1, sym (c .before .before .is-cell-count2 .ensures) ∙ c .before .if2 .taken) (c .number-of-side .ensures))
+    (λ c κs. ((leb-true _ _ (sym (c .before .before .is-cell-count2 .ensures) ∙ c .before .if2 .taken), c .faces-before2 .ensures .1), c .faces-before2 .ensures .0))
+    (λ c. rw (c .before .before .before .before .before .name2 .given .1, sym (c .before .before .before .is-cell-count2 .ensures) ∙ c .before .before .if2 .taken) (c .number-after .ensures))
     (λ c. rw (c .before .before .before .name .given .1, sym (c .before .is-cell-count .ensures) ∙ c .if1 .left))
     (λ c. rw (c .before .before .before .name2 .given .1, sym (c .before .is-cell-count2 .ensures) ∙ c .if2 .left)))

@@ -1,6 +1,6 @@
--- `mark`: the cell is the last with no more faces before it. Assumes nothing.
+-- `mark`: the cell is the last at or before what is looked for. Assumes nothing.
 use borrow.Author.Needs.{needs}
-use borrow.Author.Tests.{le-leb, lt-leb}
+use mathlib.Core.Path.{sym, _∙_}
 use Rattle.heightmap_plan.proofs.tally.mark.Statement.{statement}
 use Rattle.heightmap_plan.proofs.tally.mark.Tie as tie
 
@@ -8,5 +8,6 @@ pub mark-spec : {M : Type 1} → statement M
 mark-spec =
     tie.close
     (tie.spec
-    (λ c. rw (le-leb _ _ (c .if1 .taken)))
-    (λ c. rw (lt-leb _ _ (c .if1 .left))))
+    (λ c κs. search needs)
+    (λ c. rw (sym (c .before .is-up-to .ensures) ∙ c .if1 .taken))
+    (λ c. rw (sym (c .before .is-up-to .ensures) ∙ c .if1 .left)))

@@ -1,7 +1,7 @@
--- `mark_walls`: the cell is the last with no more faces before it. Assumes nothing.
+-- `mark_walls`: the cell is the last at or before what is looked for. Assumes nothing.
 use borrow.Author.Needs.{needs}
+use mathlib.Core.Path.{sym, _∙_}
 use native.Mathlib.Omega.{arith}
-use borrow.Author.Tests.{le-leb, lt-leb}
 use Rattle.heightmap_plan.proofs.Walking.{caps-most}
 use Rattle.heightmap_plan.proofs.tally.mark_walls.Statement.{statement}
 use Rattle.heightmap_plan.proofs.tally.mark_walls.Tie as tie
@@ -12,5 +12,6 @@ mark-walls-spec =
     (tie.spec
     (λ c κs. search needs)
     (λ c. omega (arith, c .before .caps-in .ensures, caps-most (c .before .before .args .caps) (c .before .before .args .k)))
-    (λ c. rw (← c .before .before .caps-in .ensures, le-leb _ _ (c .if1 .taken)))
-    (λ c. rw (← c .before .before .caps-in .ensures, lt-leb _ _ (c .if1 .left))))
+    (λ c κs. search needs)
+    (λ c. rw (← c .before .before .before .caps-in .ensures, sym (c .before .is-up-to .ensures) ∙ c .if1 .taken))
+    (λ c. rw (← c .before .before .before .caps-in .ensures, sym (c .before .is-up-to .ensures) ∙ c .if1 .left)))

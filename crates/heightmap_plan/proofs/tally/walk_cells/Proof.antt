@@ -16,8 +16,8 @@ walk-cells-spec =
     (tie.spec
     (λ c. search needs)
     (λ c κs. search needs)
-    (λ c κs. let a = c .before .before .before .before .before .before .before .before .before .args in let g = grid (now (a .cells)) (now (a .neighbours)) (now (a .fringe)) in let h = walls-few (a .job .caps) (a .job .sides) (a .job .fringe) g (a .number) (a .n) in let b = c .before .before .before .before .before .before .before .before .before .pre in rw (c .walk-walls .ensures) ((b, omega arith), (omega arith, omega arith)))
+    (λ c κs. let a = c .before .before .before .before .before .before .before .before .before .args in let g = grid (now (a .cells)) (now (a .neighbours)) (now (a .fringe)) in let h = walls-few (a .job .caps) (a .job .sides) (a .job .fringe) g (a .goal) (a .n) in let b = c .before .before .before .before .before .before .before .before .before .pre in rw (c .walk-walls .ensures) ((b, omega arith), (omega arith, omega arith)))
     (λ c. search needs)
     (λ c κs. search needs)
-    (λ c. let a = c .before .before .before .before .before .before .before .before .before .before .args in let ls = lists (grid (now (a .cells)) (now (a .neighbours)) (now (a .fringe))) (now (a .customs)) [] (now (a .numbers)) (now (a .marks)) in (rw (c .before .walk-walls .ensures) at (c .walk-own .ensures)) ∙ own-walk (a .job) ls (c .before .before .enum-told .given .1) (a .number) (a .n))
+    (λ c. let a = c .before .before .before .before .before .before .before .before .before .before .args in let ls = lists (grid (now (a .cells)) (now (a .neighbours)) (now (a .fringe))) (now (a .customs)) [] (now (a .numbers)) (now (a .marks)) in (rw (c .before .walk-walls .ensures) at (c .walk-own .ensures)) ∙ own-walk (a .job) ls (c .before .before .enum-told .given .1) (a .goal) (a .n))
     (λ c. search needs))

@@ -39,6 +39,22 @@ impl Given {
         Counts { vertices, indices }
     }
 
+    pub fn plan(&self) {
+        black_box(map_calls::plan(self.job, &self.call));
+    }
+
+    /// Why a side of a cell is there or missing.
+    pub fn why(&self, cell: usize, side: usize) {
+        let told = map_calls::why(self.job, &self.call, cell, side);
+        assert_eq!(told.answer.number, 0);
+    }
+
+    /// What a number stands for.
+    pub fn which(&self, face: usize) {
+        let told = map_calls::which(self.job, &self.call, face);
+        assert_eq!(told.answer.number, 0);
+    }
+
     pub fn build(&self, to: Lent) {
         let floats = [to.vertices, to.normals, to.uvs];
         let answer = map_calls::build(self.job, &self.call, floats, to.indices);

@@ -12,7 +12,9 @@ const READINGS: usize = 100;
 const LEAST: f64 = 0.002;
 
 /// The kinds of rows that can be asked for by name.
-const KINDS: [&str; 6] = ["columns", "planes", "cheap", "faces", "maps", "files"];
+const KINDS: [&str; 7] = [
+    "columns", "planes", "cheap", "faces", "maps", "why", "files",
+];
 
 /// What is asked for: kinds, and parts of the names of rows.
 pub struct Rows {

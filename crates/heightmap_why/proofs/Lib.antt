@@ -1,0 +1,4 @@
+pub mod Telling
+pub mod Law
+pub mod Calls
+pub mod Worked
