@@ -1,5 +1,5 @@
 -- Which face a number is and where it starts, guarded by the number of cells so that no sum wraps on lists that are not
--- tested; R12 and R16 are rows of docs/TRACE.md. Definitions only.
+-- tested; R12, R16 and L3d are rows of docs/TRACE.md. Definitions only.
 use Prim.Native.Nat.{ℕ}
 use mathlib.Core.Bool.{_&&_, cond}
 use mathlib.Core.List.{List, [], map}
@@ -51,6 +51,7 @@ foundInCell job ls k = foundIn job ls (cellNames job (ls .grid) k)
 abbrev pub faceCount : HeightMap → Grid → ℕ
 faceCount job g = cond (cellCount (cellsIn (g .cells))) (length (mapNames job g)) 0
 
+-- L3d: the cell of a face
 abbrev pub cellOf : Name → ℕ
 cellOf (Cap k) = k
 cellOf (Side k d) = k
@@ -58,7 +59,7 @@ cellOf (Side k d) = k
 abbrev pub numberIn : HeightMap → Grid → Name → ℕ
 numberIn job g n = cond (cellCount (cellOf n)) (numberOf job g n) 0
 
--- all faces, and the number that a side has where it stands; 0 where its cell is none, or there are too many
+-- all faces, and the number that a side has where it stands; 0 where the map has no such cell, or too many cells
 abbrev pub placedBy : Tally → ℕ → Placed
 placedBy t n = record { all = t; number = n }
 

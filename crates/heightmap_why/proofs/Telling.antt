@@ -9,12 +9,12 @@ use lib.Dec.{ltb}
 use lib.Ieee.{Float}
 use lib.ListN.{length}
 use Rattle.face.specs.declared.triangle.Counts.{Counts}
+use Rattle.answer.specs.declared.answer.Refusal.{Refusal}
 use Rattle.answer.specs.declared.answer.Answer.{Answer}
 use Rattle.answer.specs.declared.answer.Answer.the-variants.{Done, Refused}
 use Rattle.answer.specs.Answers.{limited, named}
 use Rattle.answer.proofs.Laws.{named-done}
 use Rattle.heightmap.specs.declared.Wall.{Wall}
-use Rattle.heightmap.specs.declared.Name.{Name}
 use Rattle.heightmap.specs.declared.Name.the-variants.{Side}
 use Rattle.heightmap.specs.declared.HeightMap.{HeightMap}
 use Rattle.heightmap.specs.Grid.{Grid, cellsIn, wall}
@@ -30,14 +30,11 @@ use Rattle.heightmap_plan.proofs.Telling.{planned-few, found-so}
 use Rattle.heightmap_why.specs.declared.Reason.{Reason}
 use Rattle.heightmap_why.specs.Why.{reasonBy, reasonOf, sideNamed, sideAnswer, sideTested, whyBy, whyTold, whichBy, whichTold}
 
--- what is told beside a refusal does not matter
-why-same : (a : Answer) (r s : Reason) → ((c : Counts) → a ≡ Done c → r ≡ s) → whyBy a r ≡ whyBy a s
-why-same (Refused e) r s h = refl
-why-same (Done c) r s h = ap (whyBy (Done c)) (h c refl)
-
-which-same : (a : Answer) (m n : Name) → ((c : Counts) → a ≡ Done c → m ≡ n) → whichBy a m ≡ whichBy a n
-which-same (Refused e) m n h = refl
-which-same (Done c) m n h = ap (whichBy (Done c)) (h c refl)
+-- what stands beside a refusal does not matter, where it is not told
+same-told : {A B : Type 0} (by : Answer → A → B) → ((e : Refusal) (x y : A) → by (Refused e) x ≡ by (Refused e) y)
+    → (a : Answer) (x y : A) → ((c : Counts) → a ≡ Done c → x ≡ y) → by a x ≡ by a y
+same-told by r (Refused e) x y h = r e x y
+same-told by r (Done c) x y h = ap (by (Done c)) (h c refl)
 
 module _ (job : HeightMap) (g : Grid) (us : List ℕ) (ps xs : List Float) (ms : List ℕ) where
   abbrev ls : Lists
@@ -61,11 +58,11 @@ module _ (job : HeightMap) (g : Grid) (us : List ℕ) (ps xs : List Float) (ms :
         → t ≡ tallyOf job ls → a ≡ sideTested job ls (t .counts) k side → r ≡ reasonBy w number → whyBy a r ≡ whyTold job ls k side
     why-so d number w t a r e p q f b z =
         ap₂ whyBy (b ∙ counted t f) z
-        ∙ why-same (sideAnswer job ls k side) (reasonBy w number) (reasonOf job g k side) (λ c. reason-so d number w c e p q)
+        ∙ same-told whyBy (λ e x y. refl) (sideAnswer job ls k side) (reasonBy w number) (reasonOf job g k side) (λ c. reason-so d number w c e p q)
 
   -- ---- which
   pub which-so : (i : ℕ) (found : Found) (a : Answer) → found ≡ foundAt job (lists g us [] xs ms) i → a ≡ numbered job ls i → whichBy a (found .name) ≡ whichTold job ls i
-  which-so i found a e p = ap (λ (x : Answer). whichBy x (found .name)) p ∙ which-same (numbered job ls i) (found .name) (nameAt job g i) here
+  which-so i found a e p = ap (λ (x : Answer). whichBy x (found .name)) p ∙ same-told whichBy (λ e x y. refl) (numbered job ls i) (found .name) (nameAt job g i) here
     where
       here : (c : Counts) → numbered job ls i ≡ Done c → found .name ≡ nameAt job g i
       here c d =
