@@ -6,7 +6,7 @@ ghost use Rattle.answer.specs.Answers.{room_code, code, need, number_of, counts_
 use face::triangle::{Counts, IndexPlace, VertexNumber};
 
 // One of the four lent buffers.
-#[derive(Drop)]
+#[derive(Clone, Copy)]
 pub enum Buffer {
     Vertices,
     Normals,
@@ -16,7 +16,7 @@ pub enum Buffer {
 
 // Why a call is refused; of the buffers that are too short, the first, and how many numbers the whole
 // mesh needs in it; of a byte buffer that is too short, how many bytes the file has.
-#[derive(Drop)]
+#[derive(Clone, Copy)]
 pub enum Refusal {
     Shape,
     Range,
@@ -32,7 +32,7 @@ pub enum Refusal {
     Bytes(usize),
 }
 
-#[derive(Drop)]
+#[derive(Clone, Copy)]
 pub enum Answer {
     Done(Counts),
     Refused(Refusal),

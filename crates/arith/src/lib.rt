@@ -1,6 +1,8 @@
 // The arithmetic that all else stands on: the square root and the fused multiply-add of `f32`, each
 // equal to its definition over whole numbers for every input. An `f32` is rounded by integers on bit
 // patterns, or by the machine where that is one rounding of the exact number.
+#![tactic(auto)]
+
 mod double;
 mod multiply_add;
 mod pattern;

@@ -12,7 +12,7 @@ ghost use Rattle.arith.specs.Parts.{Ready, Summed, shift_of, exp_unless_zero, su
 use crate::pattern::Scaled;
 
 // sig * 2 ^ exp with a sign
-#[derive(Drop)]
+#[derive(Clone, Copy)]
 struct Signed {
     neg: bool,
     sig: u64,

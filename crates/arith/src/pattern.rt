@@ -8,7 +8,7 @@ ghost use Rattle.arith.specs.Pattern.{sig_of, exp_of, packed};
 ghost use Rattle.arith.specs.Parts.{Placed};
 
 // sig * 2 ^ exp
-#[derive(Drop)]
+#[derive(Clone, Copy)]
 pub(crate) struct Scaled {
     pub(crate) sig: u64,
     pub(crate) exp: u32,

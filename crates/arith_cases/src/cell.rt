@@ -3,7 +3,7 @@
 ghost use Rattle.std.specs.Prelude.{◌≡◌, true, ◌≤◌, ◌^◌, length};
 ghost use Rattle.arith_cases.specs.Cell.{Below};
 
-#[derive(Drop)]
+#[derive(Clone, Copy)]
 pub(crate) enum Read {
     Number(u32),
     Nothing,

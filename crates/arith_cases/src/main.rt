@@ -1,5 +1,7 @@
 // Compares the square root and the fused multiply-add of `arith` with a record of the C library's
 // answers, bit by bit, and writes how many differ.
+#![tactic(auto)]
+
 mod cell;
 mod record;
 mod report;

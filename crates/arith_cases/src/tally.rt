@@ -5,7 +5,7 @@ ghost use Rattle.arith_cases.specs.Counting.{nothing_yet, unread, one_more, same
 // How many cases were compared, how many differ, and the first that does: up to three numbers that
 // tell the case, what was made of it and what the record has. Where the record does not read the
 // rest says nothing.
-#[derive(Drop)]
+#[derive(Clone, Copy)]
 pub(crate) struct Tally {
     pub reads: bool,
     pub count: u64,

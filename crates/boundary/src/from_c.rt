@@ -9,14 +9,14 @@ use face::vec::{Vec2, Vec3};
 use placement::placement::{Choice3, Placement, Turn};
 
 #[repr(C)]
-#[derive(Drop)]
+#[derive(Clone, Copy)]
 pub struct CVec2 {
     pub x: f32,
     pub y: f32,
 }
 
 #[repr(C)]
-#[derive(Drop)]
+#[derive(Clone, Copy)]
 pub struct CVec3 {
     pub x: f32,
     pub y: f32,
@@ -24,21 +24,21 @@ pub struct CVec3 {
 }
 
 #[repr(C)]
-#[derive(Drop)]
+#[derive(Clone, Copy)]
 pub struct CCounts {
     pub vertices: usize,
     pub indices: usize,
 }
 
 #[repr(C)]
-#[derive(Drop)]
+#[derive(Clone, Copy)]
 pub struct CChoice3 {
     pub given: bool,
     pub value: CVec3,
 }
 
 #[repr(C)]
-#[derive(Drop)]
+#[derive(Clone, Copy)]
 pub struct CTurn {
     pub given: bool,
     pub first: CVec3,
@@ -47,7 +47,7 @@ pub struct CTurn {
 }
 
 #[repr(C)]
-#[derive(Drop)]
+#[derive(Clone, Copy)]
 pub struct CPlacement {
     pub scale: CChoice3,
     pub turn: CTurn,
@@ -55,14 +55,14 @@ pub struct CPlacement {
 }
 
 #[repr(C)]
-#[derive(Drop)]
+#[derive(Clone, Copy)]
 pub struct CFlip {
     pub u: bool,
     pub v: bool,
 }
 
 #[repr(C)]
-#[derive(Drop)]
+#[derive(Clone, Copy)]
 pub struct CUvOptions {
     pub scale: CVec2,
     pub offset: CVec2,

@@ -11,7 +11,7 @@ use placement::options::Choice;
 use plane_builder::Plane;
 
 #[repr(C)]
-#[derive(Drop)]
+#[derive(Clone, Copy)]
 pub struct CPlane {
     pub position: CVec2,
     pub option: u8,
@@ -20,21 +20,21 @@ pub struct CPlane {
 
 // Whether a face is there, and the number of its option.
 #[repr(C)]
-#[derive(Drop)]
+#[derive(Clone, Copy)]
 pub struct CChoice {
     pub given: bool,
     pub option: u8,
 }
 
 #[repr(C)]
-#[derive(Drop)]
+#[derive(Clone, Copy)]
 pub struct CSubdivisions {
     pub given: bool,
     pub number: u32,
 }
 
 #[repr(C)]
-#[derive(Drop)]
+#[derive(Clone, Copy)]
 pub struct CColumn {
     pub height: f32,
     pub subdivisions: CSubdivisions,
@@ -46,14 +46,14 @@ pub struct CColumn {
 }
 
 #[repr(C)]
-#[derive(Drop)]
+#[derive(Clone, Copy)]
 pub struct CCheapColumn {
     pub centre: CVec2,
     pub height: f32,
 }
 
 #[repr(C)]
-#[derive(Drop)]
+#[derive(Clone, Copy)]
 pub struct CRange {
     pub given: bool,
     pub min: f32,
@@ -61,7 +61,7 @@ pub struct CRange {
 }
 
 #[repr(C)]
-#[derive(Drop)]
+#[derive(Clone, Copy)]
 pub struct COrigin {
     pub given: bool,
     pub at: CVec2,
@@ -69,7 +69,7 @@ pub struct COrigin {
 
 // The fringe is 1, no heights beyond the edge, or 2, heights that are listed. Whether customs are listed is a bool.
 #[repr(C)]
-#[derive(Drop)]
+#[derive(Clone, Copy)]
 pub struct CHeightMap {
     pub caps: CChoice,
     pub sides: CChoice,

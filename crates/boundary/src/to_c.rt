@@ -12,7 +12,7 @@ use mesh::windows::{Faces, Window};
 use stl_writing::FileAnswer;
 
 #[repr(C)]
-#[derive(Drop)]
+#[derive(Clone, Copy)]
 pub struct CAnswer {
     pub number: u32,
     pub spare: u32,
@@ -22,28 +22,28 @@ pub struct CAnswer {
 }
 
 #[repr(C)]
-#[derive(Drop)]
+#[derive(Clone, Copy)]
 pub struct CCentroid {
     pub answer: CAnswer,
     pub centroid: CVec3,
 }
 
 #[repr(C)]
-#[derive(Drop)]
+#[derive(Clone, Copy)]
 pub struct CUvCentroid {
     pub answer: CAnswer,
     pub centroid: CVec2,
 }
 
 #[repr(C)]
-#[derive(Drop)]
+#[derive(Clone, Copy)]
 pub struct CFaces {
     pub answer: CAnswer,
     pub faces: usize,
 }
 
 #[repr(C)]
-#[derive(Drop)]
+#[derive(Clone, Copy)]
 pub struct CWindow {
     pub answer: CAnswer,
     pub first_vertex: usize,
@@ -53,14 +53,14 @@ pub struct CWindow {
 }
 
 #[repr(C)]
-#[derive(Drop)]
+#[derive(Clone, Copy)]
 pub struct CFile {
     pub answer: CAnswer,
     pub bytes: usize,
 }
 
 #[repr(C)]
-#[derive(Drop)]
+#[derive(Clone, Copy)]
 pub struct CWhy {
     pub answer: CAnswer,
     pub reason: u32,
@@ -69,7 +69,7 @@ pub struct CWhy {
 }
 
 #[repr(C)]
-#[derive(Drop)]
+#[derive(Clone, Copy)]
 pub struct CWhich {
     pub answer: CAnswer,
     pub kind: u32,

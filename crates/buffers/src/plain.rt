@@ -11,7 +11,7 @@ use face::vec::{Vec2, Vec3};
 use placement::placement::Stand;
 
 // The six points of a hexagon; or the four of a quad, and two that are not laid.
-#[derive(Drop)]
+#[derive(Clone, Copy)]
 pub struct Plain {
     pub positions: [Vec3; 6],
     pub normal: Vec3,

@@ -1,5 +1,7 @@
 // The cells of a height map as a list of records, loaded whole into the two flat lists that every call of a map takes.
 // The functions that take the records are thin: what a cell's numbers are, and where they go, is decided by value.
+#![tactic(auto)]
+
 ghost use Rattle.std.specs.Prelude.{◌≡◌, ◌<◌, ◌≤◌, ◌+◌, ◌*◌, length};
 ghost use Rattle.buffers.specs.Laying.{laid};
 ghost use Rattle.cells.specs.Cells.{cell_at, ends_of, words_of, numbers_to, neighbours_to, Storing, loadable, load_count, load_answer, Loading};
@@ -9,7 +11,7 @@ use face::triangle::{Counts, IndexPlace, VertexNumber};
 
 // Its height, its position, of each side the left end and the right (x and z), and the neighbours beyond the sides.
 #[repr(C)]
-#[derive(Drop)]
+#[derive(Clone, Copy)]
 pub struct Cell {
     pub height: f32,
     pub x: f32,

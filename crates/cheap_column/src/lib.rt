@@ -1,5 +1,7 @@
 // The cheap column, after `cheap_hexagonal_column` of hexx: a job of one face, whose vertices the
 // top and the sides share. It has no bottom.
+#![tactic(auto)]
+
 ghost use Rattle.std.specs.Prelude.{◌≡◌, ◌++◌, map, ◌+◌, ◌≤◌, length};
 ghost use Rattle.face.specs.Lists.{each};
 ghost use Rattle.face.specs.Vec.{minus3};
@@ -16,7 +18,7 @@ use mesh::windows::{Faces, Window};
 
 // The middle of the hexagon and the height of its top; the six corners come in a list of twelve
 // numbers, the hexagon's own as the layout places them.
-#[derive(Drop)]
+#[derive(Clone, Copy)]
 pub struct CheapColumn {
     pub centre: Vec2,
     pub height: f32,

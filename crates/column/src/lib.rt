@@ -1,5 +1,7 @@
 // What a column is, after column_builder.rs of hexx: its job, its tests and its counts; in names.rt the numbers of its
 // faces, in window.rt their places, in wall.rt a side and in caps.rt where the caps stand. All by value.
+#![tactic(auto)]
+
 pub mod caps;
 pub mod names;
 pub mod wall;
@@ -18,26 +20,26 @@ use face::vec::Vec2;
 use placement::options::Choice;
 use placement::placement::Placement;
 
-#[derive(Drop)]
+#[derive(Clone, Copy)]
 pub enum Subdivisions {
     Absent,
     Of(u32),
 }
 
-#[derive(Drop)]
+#[derive(Clone, Copy)]
 pub struct Side {
     pub option: Choice,
 }
 
 // A face of a column: a part of a side, by the numbers of both, or a cap.
-#[derive(Drop)]
+#[derive(Clone, Copy)]
 pub enum Name {
     OfSide(u8, u32),
     Top,
     Bottom,
 }
 
-#[derive(Drop)]
+#[derive(Clone, Copy)]
 pub struct Column {
     pub height: f32,
     pub subdivisions: Subdivisions,

@@ -68,7 +68,7 @@ pub fn name_of(job: crate::Column, number: usize) -> crate::Name
 }
 
 // What is laid of a face: the part of a side by the numbers of both, or a cap by where it stands and its option.
-#[derive(Drop)]
+#[derive(Clone, Copy)]
 pub enum Piece {
     Part(u8, u32),
     Cap(Stand, Choice),

@@ -10,7 +10,7 @@ use face::vec::{Vec2, Vec3};
 use placement::placement::{Choice3, Stand};
 
 // The normal and the altered uvs are the same at every height.
-#[derive(Drop)]
+#[derive(Clone, Copy)]
 pub struct Wall {
     pub left: Vec2,
     pub right: Vec2,

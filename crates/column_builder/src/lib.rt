@@ -1,4 +1,6 @@
 // Columns built, after column_builder.rs of hexx: six sides of parts one above the other, a top and a bottom.
+#![tactic(auto)]
+
 mod laying;
 
 ghost use Rattle.std.specs.Prelude.{◌≡◌};

@@ -1,6 +1,8 @@
 // What C and Rust link: each function under a name with the prefix `hosirekar_`, for every input.
 // It promises what the function below it promises, with jobs and answers carried over by the
 // definitions of `boundary`.
+#![tactic(auto)]
+
 pub mod cheap;
 pub mod columns;
 pub mod loading;

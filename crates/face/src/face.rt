@@ -5,14 +5,14 @@ ghost use Rattle.face.specs.Face.{quad_with, quad_of, reached, bounded_quad_of, 
 
 use crate::vec::{Vec2, Vec3};
 
-#[derive(Drop)]
+#[derive(Clone, Copy)]
 pub struct Quad {
     pub positions: [Vec3; 4],
     pub normal: Vec3,
     pub uvs: [Vec2; 4],
 }
 
-#[derive(Drop)]
+#[derive(Clone, Copy)]
 pub struct Hexagon {
     pub positions: [Vec3; 6],
     pub normal: Vec3,

@@ -6,7 +6,7 @@ ghost use Rattle.face.specs.Inset.{is_none};
 use crate::vec::{Vec2, Vec3};
 
 // None, or how the inner points are found: the scale, and whether the inner face is kept.
-#[derive(Drop)]
+#[derive(Clone, Copy)]
 pub enum Inset {
     None,
     Centroid(f32, bool),
@@ -14,7 +14,7 @@ pub enum Inset {
 }
 
 // A quad and its inner quad: the outer points first. Without an inset the inner one is the same.
-#[derive(Drop)]
+#[derive(Clone, Copy)]
 pub struct InsetQuad {
     pub positions: [Vec3; 8],
     pub normal: Vec3,
@@ -22,7 +22,7 @@ pub struct InsetQuad {
 }
 
 // The same of a hexagon.
-#[derive(Drop)]
+#[derive(Clone, Copy)]
 pub struct InsetHexagon {
     pub positions: [Vec3; 12],
     pub normal: Vec3,

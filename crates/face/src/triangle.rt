@@ -6,18 +6,18 @@ ghost use Rattle.face.specs.Triangles.{tri, no_triangle, quad_triangles, hexagon
 use crate::inset::Inset;
 
 // The number of a vertex, within its face or within a whole mesh.
-#[derive(Drop)]
+#[derive(Clone, Copy)]
 pub struct VertexNumber(pub usize);
 
 // A place in the list of indices.
-#[derive(Drop)]
+#[derive(Clone, Copy)]
 pub struct IndexPlace(pub usize);
 
-#[derive(Drop)]
+#[derive(Clone, Copy)]
 pub struct Triangle(pub VertexNumber, pub VertexNumber, pub VertexNumber);
 
 // How many: the vertex number and the index place that come after the last.
-#[derive(Drop)]
+#[derive(Clone, Copy)]
 pub struct Counts {
     pub vertices: VertexNumber,
     pub indices: IndexPlace,

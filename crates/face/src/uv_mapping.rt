@@ -7,13 +7,13 @@ ghost use Rattle.face.specs.Speed.{same, one_of_both};
 
 use crate::vec::Vec2;
 
-#[derive(Drop)]
+#[derive(Clone, Copy)]
 pub struct Flip {
     pub u: bool,
     pub v: bool,
 }
 
-#[derive(Drop)]
+#[derive(Clone, Copy)]
 pub struct UvOptions {
     pub scale: Vec2,
     pub offset: Vec2,
@@ -163,7 +163,7 @@ pub fn wrap_uv(p: Vec2) -> Vec2
 }
 
 // A corner and the opposite one.
-#[derive(Drop)]
+#[derive(Clone, Copy)]
 struct Across {
     near: Vec2,
     far: Vec2,

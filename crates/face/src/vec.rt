@@ -4,13 +4,13 @@ ghost use Rattle.std.specs.Prelude.{◌≡◌};
 ghost use Rattle.face.specs.Vec.{plus2, minus2, times2, plus3, minus3, times3, square2, square3, length2, length3, reciprocal, serves, unit2, unit3, middle2, middle3};
 ghost use Rattle.face.specs.Speed.{ordinary};
 
-#[derive(Drop)]
+#[derive(Clone, Copy)]
 pub struct Vec2 {
     pub x: f32,
     pub y: f32,
 }
 
-#[derive(Drop)]
+#[derive(Clone, Copy)]
 pub struct Vec3 {
     pub x: f32,
     pub y: f32,

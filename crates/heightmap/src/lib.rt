@@ -1,5 +1,7 @@
 // What a height map is, after heightmap_builder.rs of hexx: its job and its faces' names; in grid.rt its cells and their
 // walls, in options.rt the option of a face and where it stands. All by value.
+#![tactic(auto)]
+
 pub mod grid;
 pub mod options;
 
@@ -8,33 +10,33 @@ use placement::options::Choice;
 use placement::placement::Placement;
 
 // The heights beyond the edge: none, or six a cell in a list.
-#[derive(Drop)]
+#[derive(Clone, Copy)]
 pub enum Fringe {
     Bare,
     Listed,
 }
 
 // The options of single faces: none, or seven a cell in a list, the cap's first.
-#[derive(Drop)]
+#[derive(Clone, Copy)]
 pub enum Customs {
     Absent,
     Listed,
 }
 
 // The range by which a side's v goes: of all heights, or from the first number to the second.
-#[derive(Drop)]
+#[derive(Clone, Copy)]
 pub enum HeightRange {
     OfAll,
     Of(f32, f32),
 }
 
-#[derive(Drop)]
+#[derive(Clone, Copy)]
 pub enum Origin {
     Centred,
     At(Vec2),
 }
 
-#[derive(Drop)]
+#[derive(Clone, Copy)]
 pub struct Span {
     pub min: f32,
     pub max: f32,
@@ -42,7 +44,7 @@ pub struct Span {
 
 // Why a side is there or is not: sides are off, there is no height beyond it, that height is not below the cell's, or it
 // is, and the side stands on it.
-#[derive(Drop)]
+#[derive(Clone, Copy)]
 pub enum Wall {
     SidesOff,
     NothingBeyond,
@@ -51,14 +53,14 @@ pub enum Wall {
 }
 
 // A face of a map: the cap of a cell, or one of its sides, by the numbers of both.
-#[derive(Drop)]
+#[derive(Clone, Copy)]
 pub enum Name {
     Cap(usize),
     Side(usize, u8),
 }
 
 // An absent option drops all caps, or all sides.
-#[derive(Drop)]
+#[derive(Clone, Copy)]
 pub struct HeightMap {
     pub caps: Choice,
     pub sides: Choice,

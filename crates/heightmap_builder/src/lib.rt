@@ -1,4 +1,6 @@
 // Height maps built, after heightmap_builder.rs of hexx: of each cell its cap, then the walls down to what is lower.
+#![tactic(auto)]
+
 ghost use Rattle.std.specs.Prelude.{◌≡◌};
 ghost use Rattle.buffers.specs.Lent.{entering, Become};
 ghost use Rattle.heightmap.specs.HeightMap.{lent};

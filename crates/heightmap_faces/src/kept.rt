@@ -5,13 +5,13 @@ ghost use Rattle.heightmap_faces.specs.Kept.{number_in, level_by, top_by};
 use heightmap::Span;
 use placement::options::Choice;
 
-#[derive(Drop)]
+#[derive(Clone, Copy)]
 pub struct KeptLevel {
     pub number: u8,
     pub level: crate::Level,
 }
 
-#[derive(Drop)]
+#[derive(Clone, Copy)]
 pub struct KeptTop {
     pub number: u8,
     pub top: crate::Top,

@@ -1,5 +1,7 @@
 // The faces of a height map by value, with what they share worked out once: a cap by its option, a wall by its option and
 // the range of heights, and where each comes to stand.
+#![tactic(auto)]
+
 pub mod kept;
 pub mod named;
 
@@ -17,7 +19,7 @@ use placement::placement::{Stand, Supplied3};
 
 // What the walls of an option share: the u of their left and of their right end hang on the option alone, their v on the
 // range and a height.
-#[derive(Drop)]
+#[derive(Clone, Copy)]
 pub struct Skin {
     pub inset: Inset,
     pub uv: UvOptions,
@@ -28,7 +30,7 @@ pub struct Skin {
 }
 
 // A skin at the height up to which the walls of a cell go, with the v of that height.
-#[derive(Drop)]
+#[derive(Clone, Copy)]
 pub struct Level {
     pub skin: Skin,
     pub top: f32,
@@ -36,7 +38,7 @@ pub struct Level {
 }
 
 // The cap of an option, inset and altered, before any cell moves it.
-#[derive(Drop)]
+#[derive(Clone, Copy)]
 pub struct Top {
     pub inset: Inset,
     pub whole: InsetHexagon,

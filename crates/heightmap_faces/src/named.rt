@@ -8,14 +8,14 @@ use heightmap::{HeightMap, Name};
 use placement::placement::Stand;
 
 // A cap, and where it stands.
-#[derive(Drop)]
+#[derive(Clone, Copy)]
 pub struct CapFace {
     pub top: crate::Top,
     pub stand: Stand,
 }
 
 // A wall: its skin up to its cell's height, where it stands, its ends and its foot.
-#[derive(Drop)]
+#[derive(Clone, Copy)]
 pub struct SideFace {
     pub level: crate::Level,
     pub stand: Stand,

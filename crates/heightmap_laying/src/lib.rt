@@ -1,4 +1,6 @@
 // The faces of a height map laid into four buffers, each where it fits: one by its name, or all of them end to end.
+#![tactic(auto)]
+
 ghost use Rattle.std.specs.Prelude.{◌≡◌, cond, [], ◌+◌, ◌≤◌, ◌<◌, ◌^◌};
 ghost use Rattle.answer.specs.Checks.{cell_count};
 ghost use Rattle.buffers.specs.Mesh.{also, measure};
@@ -18,7 +20,7 @@ use placement::options::Choice;
 use placement::placement::Stand;
 
 // What a job works out once for all its walls.
-#[derive(Drop)]
+#[derive(Clone, Copy)]
 pub struct Shared {
     pub job: HeightMap,
     pub span: Span,

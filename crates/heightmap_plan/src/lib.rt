@@ -1,5 +1,7 @@
 // The tests of a height map and its plan, in the order of the refusals; in tally.rt its counts, in names.rt its
 // faces by their numbers, in window.rt their places. All by value.
+#![tactic(auto)]
+
 pub mod names;
 pub mod tally;
 pub mod window;

@@ -11,21 +11,21 @@ use crate::tally::Goal;
 use face::triangle::Counts;
 use heightmap::{HeightMap, Name};
 
-#[derive(Drop)]
+#[derive(Clone, Copy)]
 pub struct Found {
     pub name: Name,
     pub start: Counts,
 }
 
 // All faces, and one of them by its number.
-#[derive(Drop)]
+#[derive(Clone, Copy)]
 pub struct Survey {
     pub all: crate::tally::Tally,
     pub found: Found,
 }
 
 // All faces, and the number of a side.
-#[derive(Drop)]
+#[derive(Clone, Copy)]
 pub struct Placed {
     pub all: crate::tally::Tally,
     pub number: usize,

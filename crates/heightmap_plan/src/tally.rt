@@ -15,21 +15,21 @@ use face::triangle::{Counts, IndexPlace, VertexNumber};
 use placement::options::Choice;
 
 // How many faces, and what they take.
-#[derive(Drop)]
+#[derive(Clone, Copy)]
 pub struct Tally {
     pub faces: usize,
     pub counts: Counts,
 }
 
 // What a walk looks for: the cell of a face, by the face's number, or a cell by its own.
-#[derive(Drop)]
+#[derive(Clone, Copy)]
 pub enum Goal {
     Face(usize),
     Cell(usize),
 }
 
 // Of the first cells all faces; and the cell that is looked for, or the last before it, with what lies before that.
-#[derive(Drop)]
+#[derive(Clone, Copy)]
 pub struct Walk {
     pub all: Tally,
     pub cell: usize,
@@ -37,7 +37,7 @@ pub struct Walk {
 }
 
 // The same of the walls alone.
-#[derive(Drop)]
+#[derive(Clone, Copy)]
 pub struct Walls {
     pub all: usize,
     pub cell: usize,

@@ -52,7 +52,7 @@ fn size_of(job: HeightMap, name: Name, customs: &[u8], numbers: &[f32], marks: &
 }
 
 // What is known of a number before any room is asked for: the answer so far, and the face.
-#[derive(Drop)]
+#[derive(Clone, Copy)]
 pub struct Sought {
     pub answer: Answer,
     pub found: Found,

@@ -1,5 +1,7 @@
 // Why a wall of a height map is there or is not, and which face a number is. No buffer is lent, and one walk over the
 // cells serves an answer.
+#![tactic(auto)]
+
 ghost use Rattle.std.specs.Prelude.{◌≡◌, cond, ltb};
 ghost use Rattle.heightmap.specs.HeightMap.{lent};
 ghost use Rattle.heightmap_plan.specs.Finding.{cell_of};
@@ -12,7 +14,7 @@ use heightmap::{HeightMap, Name, Wall};
 
 // Sides are off; there is no neighbour and no fringe height; the neighbour or the fringe is as high or higher, with that
 // height; the wall is there, with its face number. They are tested in this order.
-#[derive(Drop)]
+#[derive(Clone, Copy)]
 pub enum Reason {
     SidesOff,
     NothingBeyond,
@@ -21,14 +23,14 @@ pub enum Reason {
 }
 
 // A refusal, or the plan's counts and the reason.
-#[derive(Drop)]
+#[derive(Clone, Copy)]
 pub enum WhyAnswer {
     Refused(Refusal),
     Because(Counts, Reason),
 }
 
 // A refusal, or the plan's counts and the face.
-#[derive(Drop)]
+#[derive(Clone, Copy)]
 pub enum WhichAnswer {
     Refused(Refusal),
     Named(Counts, Name),

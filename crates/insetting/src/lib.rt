@@ -1,4 +1,6 @@
 // The insets of quads and hexagons, after face.rs of hexx: the inner points.
+#![tactic(auto)]
+
 ghost use Rattle.std.specs.Prelude.{◌≡◌, ◌++◌};
 ghost use Rattle.face.specs.Vec.{minus3, length3};
 ghost use Rattle.face.specs.Inset.{toward3, toward2, shrunk3, shrunk2, shorter, along, edge_point, edge_uv, inset_quad_of, inset_hexagon_of};

@@ -1,5 +1,7 @@
 // One mesh merged into another, after `merge_with` of hexx. The limit is tested before any index is
 // formed, and nothing is written before every test has passed.
+#![tactic(auto)]
+
 ghost use Rattle.std.specs.Prelude.{◌≡◌, map, ℕ, ◌+◌, ◌*◌, ◌≤◌, ◌<◌, ◌^◌, length, get_or};
 ghost use Rattle.answer.specs.declared.answer.Answer.TheVariants.{Done};
 ghost use Rattle.buffers.specs.Mesh.{also};

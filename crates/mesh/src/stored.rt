@@ -11,13 +11,13 @@ use answer::answer::{Answer, Refusal};
 use face::triangle::Counts;
 use face::vec::{Vec2, Vec3};
 
-#[derive(Drop)]
+#[derive(Clone, Copy)]
 pub struct CentroidAnswer {
     pub answer: Answer,
     pub centroid: Vec3,
 }
 
-#[derive(Drop)]
+#[derive(Clone, Copy)]
 pub struct UvCentroidAnswer {
     pub answer: Answer,
     pub centroid: Vec2,

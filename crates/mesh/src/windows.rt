@@ -7,14 +7,14 @@ ghost use Rattle.mesh.specs.Jobs.{faces_by, window_by};
 use answer::answer::Answer;
 use face::triangle::{Counts, IndexPlace, VertexNumber};
 
-#[derive(Drop)]
+#[derive(Clone, Copy)]
 pub struct Faces {
     pub answer: Answer,
     pub faces: usize,
 }
 
 // The places of one face: from the start on, as many as its size says.
-#[derive(Drop)]
+#[derive(Clone, Copy)]
 pub struct Window {
     pub answer: Answer,
     pub start: Counts,

@@ -1,4 +1,6 @@
 // Reads a sheet from standard input and writes its answer to standard output.
+#![tactic(auto)]
+
 ghost use Rattle.std.specs.Prelude.{◌≤◌, true, length};
 ghost use Rattle.sheet.specs.Meshes.{Written};
 ghost use Rattle.sheet.specs.Answering.{answer_text, room};

@@ -1,6 +1,8 @@
 // Answers the sheets of standard input, one after the other: a case's name, then its answer; of a long
 // answer how many bytes it has, and their sum. A case is a line with its name, the sheet, and a line's
 // end after the mark `=`, which stands in no sheet.
+#![tactic(auto)]
+
 mod show;
 
 ghost use Rattle.std.specs.Prelude.{◌≤◌, ◌<◌, length};

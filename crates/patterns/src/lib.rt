@@ -1,4 +1,6 @@
 // A number from its pattern of bits, and back; the bytes of a pattern, and its digits.
+#![tactic(auto)]
+
 ghost use Rattle.std.specs.Prelude.{◌≡◌};
 ghost use Rattle.patterns.specs.Digits.{digit_value};
 ghost use Rattle.patterns.specs.Patterns.{bits_of, float_of, bytes_of, of_bytes};

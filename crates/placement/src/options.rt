@@ -7,13 +7,13 @@ use face::uv_mapping::{Flip, UvOptions};
 use face::vec::Vec2;
 
 // The number of an option, or that the face is not there.
-#[derive(Drop)]
+#[derive(Clone, Copy)]
 pub enum Choice {
     Absent,
     With(u8),
 }
 
-#[derive(Drop)]
+#[derive(Clone, Copy)]
 pub struct FaceOptions {
     pub uv: UvOptions,
     pub inset: Inset,

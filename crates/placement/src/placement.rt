@@ -7,21 +7,21 @@ ghost use Rattle.placement.specs.Placing.{ones, supplied, supplied_turn, scaled,
 
 use face::vec::{Vec2, Vec3};
 
-#[derive(Drop)]
+#[derive(Clone, Copy)]
 pub enum Choice3 {
     Absent,
     With(Vec3),
 }
 
 // Nine numbers, row by row.
-#[derive(Drop)]
+#[derive(Clone, Copy)]
 pub enum Turn {
     Absent,
     Rows(Vec3, Vec3, Vec3),
 }
 
 // Scale, turn and offset of a whole job, each if supplied.
-#[derive(Drop)]
+#[derive(Clone, Copy)]
 pub struct Placement {
     pub scale: Choice3,
     pub turn: Turn,
@@ -30,13 +30,13 @@ pub struct Placement {
 
 // A choice in plain numbers. The compiler forms the products of an absent one too and drops them, so ones stand there:
 // whatever lay there before might be subnormal, which is slow.
-#[derive(Drop)]
+#[derive(Clone, Copy)]
 pub struct Supplied3 {
     pub on: bool,
     pub by: Vec3,
 }
 
-#[derive(Drop)]
+#[derive(Clone, Copy)]
 pub struct SuppliedTurn {
     pub on: bool,
     pub first: Vec3,
@@ -46,7 +46,7 @@ pub struct SuppliedTurn {
 
 // All that moves a face: a first offset, a half turn, scale, turn, offset and a map's origin, in this order, each if it
 // is so.
-#[derive(Drop)]
+#[derive(Clone, Copy)]
 pub struct Stand {
     pub first: Supplied3,
     pub half: bool,

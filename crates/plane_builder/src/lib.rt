@@ -1,5 +1,7 @@
 // A plane, after plane_builder.rs of hexx: one hexagon with its inset, scaled, turned and moved, and
 // its uvs altered last. A job of one face, whose number is 0.
+#![tactic(auto)]
+
 pub mod cap;
 
 ghost use Rattle.std.specs.Prelude.{◌≡◌, ◌&&◌};
@@ -15,7 +17,7 @@ use placement::placement::{Choice3, Placement};
 
 // The six corners come in a list of twelve numbers, those of a hexagon about zero; the position says
 // where it stands.
-#[derive(Drop)]
+#[derive(Clone, Copy)]
 pub struct Plane {
     pub position: Vec2,
     pub option: u8,

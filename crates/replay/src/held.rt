@@ -5,7 +5,7 @@ use crate::words;
 use crate::words::{FLOATS, INDICES, KEPT, KEPT_INDEX};
 use answer::answer::Answer;
 
-#[derive(Drop)]
+#[derive(Clone, Copy)]
 pub(crate) struct Held {
     pub vertices: [f32; FLOATS],
     pub normals: [f32; FLOATS],
@@ -14,7 +14,7 @@ pub(crate) struct Held {
 }
 
 // How much of each list is lent.
-#[derive(Drop)]
+#[derive(Clone, Copy)]
 pub(crate) struct Lent {
     pub vertices: usize,
     pub normals: usize,
@@ -23,7 +23,7 @@ pub(crate) struct Lent {
 }
 
 // What a call answers, and the lists as it leaves them.
-#[derive(Drop)]
+#[derive(Clone, Copy)]
 pub(crate) struct Made {
     pub answer: Answer,
     pub held: Held,
@@ -31,7 +31,7 @@ pub(crate) struct Made {
 
 // Two remainders by a prime a little above 2^32: each changes with any one word. Of each the last 32 bits are held, so
 // such a change is lost only where the old and the new remainder are 2^32 apart, in both.
-#[derive(Drop)]
+#[derive(Clone, Copy)]
 pub(crate) struct Digest {
     pub a: u64,
     pub b: u64,

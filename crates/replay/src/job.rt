@@ -10,7 +10,7 @@ use placement::options::Choice;
 use placement::placement::{Choice3, Placement, Turn};
 use plane_builder::Plane;
 
-#[derive(Drop)]
+#[derive(Clone, Copy)]
 pub(crate) struct Lengths {
     pub pairs: usize,
     pub corners: usize,

@@ -1,5 +1,7 @@
 // Replays recorded cheap columns, planes, columns, merges and points through the crates' public calls, and tells of each kind how
 // many differ from the record and which is the first.
+#![tactic(auto)]
+
 mod calls;
 mod faces;
 mod held;
@@ -20,7 +22,7 @@ const POINTS: u32 = 4;
 
 const WRAPS: u32 = 5;
 
-#[derive(Drop)]
+#[derive(Clone, Copy)]
 struct Tally {
     differ: u32,
     first: u32,

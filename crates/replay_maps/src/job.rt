@@ -7,7 +7,7 @@ use heightmap::{Customs, Fringe, HeightMap, HeightRange, Origin};
 use placement::options::Choice;
 use placement::placement::{Choice3, Placement, Turn};
 
-#[derive(Drop)]
+#[derive(Clone, Copy)]
 pub(crate) struct Lengths {
     pub cells: usize,
     pub neighbours: usize,

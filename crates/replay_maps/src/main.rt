@@ -1,5 +1,7 @@
 // Replays recorded height maps and stored meshes through the crates' public calls, and tells of each kind how many
 // differ from the record and which is the first.
+#![tactic(auto)]
+
 mod calls;
 mod held;
 mod job;
@@ -17,7 +19,7 @@ const LIMITS: u32 = 1;
 
 const STORED: u32 = 2;
 
-#[derive(Drop)]
+#[derive(Clone, Copy)]
 struct Tally {
     differ: u32,
     first: u32,

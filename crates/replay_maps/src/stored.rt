@@ -18,14 +18,14 @@ const TEXTURE_SCALE: u32 = 2;
 const CENTROID: u32 = 3;
 
 // What a call of a stored mesh answers, and the value beside it: +0 where there is none.
-#[derive(Drop)]
+#[derive(Clone, Copy)]
 struct Valued {
     answer: Answer,
     value: Vec3,
 }
 
 // The same, and the lists as the call leaves them.
-#[derive(Drop)]
+#[derive(Clone, Copy)]
 struct Changed {
     valued: Valued,
     held: Held,

@@ -1,4 +1,6 @@
 // The bytes of a sheet to the bytes of its answer: a sheet read, and a mesh or a refusal written as text.
+#![tactic(auto)]
+
 mod digits;
 mod reading;
 mod reading_lines;

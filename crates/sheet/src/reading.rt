@@ -6,7 +6,7 @@ use crate::reading_lines::{block, count, section};
 use crate::reading_numbers::{Number, Spot, hex, mark};
 
 // What an absent side or absent caps would carry is 0.
-#[derive(Drop)]
+#[derive(Clone, Copy)]
 pub struct Sheet {
     pub height: u32,
     pub subdivisions: u32,
@@ -17,13 +17,13 @@ pub struct Sheet {
 }
 
 // What does not read is refusal 9, which the caller gives; its sheet is all 0.
-#[derive(Drop)]
+#[derive(Clone, Copy)]
 pub struct Reading {
     pub good: bool,
     pub sheet: Sheet,
 }
 
-#[derive(Drop)]
+#[derive(Clone, Copy)]
 enum Head {
     Of(u32, u32, usize),
     Not,

@@ -4,14 +4,14 @@ ghost use Rattle.sheet.specs.Lent.{bytes_from};
 ghost use Rattle.sheet.specs.Readers.{mark_of, word_of, digit_at, hex_of, decimal_from, decimal_of, spot_seen, number_seen};
 
 // The place past what was read.
-#[derive(Drop)]
+#[derive(Clone, Copy)]
 pub enum Spot {
     At(usize),
     Not,
 }
 
 // What was read, and the place past it.
-#[derive(Drop)]
+#[derive(Clone, Copy)]
 pub enum Number {
     Of(u32, usize),
     Not,

@@ -1,11 +1,13 @@
 // A binary STL file: 80 bytes of header, the number of triangles, and 50 bytes for each of them.
+#![tactic(auto)]
+
 ghost use Rattle.std.specs.Prelude.{◌≡◌};
 ghost use Rattle.stl.specs.File.{file_length};
 
 use face::vec::Vec3;
 
 // A triangle of a file: its normal and its three corners.
-#[derive(Drop)]
+#[derive(Clone, Copy)]
 pub struct Facet {
     pub normal: Vec3,
     pub first: Vec3,

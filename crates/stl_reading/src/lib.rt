@@ -1,5 +1,7 @@
 // A binary STL file read into four lent buffers, as a mesh in which no two triangles share a vertex.
 // Nothing is written before every test has passed.
+#![tactic(auto)]
+
 ghost use Rattle.std.specs.Prelude.{◌≡◌, ◌+◌, ◌*◌, ◌≤◌, ◌<◌, length};
 ghost use Rattle.face.specs.Lists.{each, chain};
 ghost use Rattle.face.specs.Vec.{f0};

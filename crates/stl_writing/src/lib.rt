@@ -1,5 +1,7 @@
 // A mesh written as a binary STL file into a lent byte buffer. Nothing is written before every test
 // has passed.
+#![tactic(auto)]
+
 ghost use Rattle.std.specs.Prelude.{◌≡◌, ◌+◌, ◌*◌, ◌≤◌, ◌<◌, [], ◌∷◌, length};
 ghost use Rattle.face.specs.Lists.{chain};
 ghost use Rattle.buffers.specs.Laying.{laid};
@@ -14,7 +16,7 @@ use face::vec::Vec3;
 use stl::Facet;
 
 // What a writer is told: the mesh's counts, and how many bytes its file has.
-#[derive(Drop)]
+#[derive(Clone, Copy)]
 pub struct FileAnswer {
     pub answer: Answer,
     pub bytes: usize,

@@ -25,7 +25,7 @@ no_number = refl
 above : (b : ℕ) → 255 * 2 ^ 23 < b % 2 ^ 31 → nan ≡ of_bits binary32 b
 above b h = only (of_bits binary32 b) (sym (nan_bits_is binary32 b) ∙ nan_bits_above binary32 b ∙ lt-ltb (255 * 2 ^ 23) (b % 2 ^ 31) h)
 
-from_bits : tie.Need-float-from-bits-result
+from_bits : tie.Need-float_from_bits-result
 from_bits c =
     let b = c.before.args.bits in
     subst (λ (t : Bool). T (not t)) (sym (nan_bits_above binary32 b)) (le→nltb (255 * 2 ^ 23) (b % 2 ^ 31) (omega arith))
