@@ -17,6 +17,6 @@ pub returns : goal.returns
 returns c =
     in-steps _ _ _
     (elim c.else-is_finite.branch [
-      else-is_finite-via-then-is_finite+else-is_finite-2 w ↦ inr (sym w.is_finite-then-is_finite.ensures ∙ w.if-is_finite-2.false)
-    | else-is_finite-via-else-is_finite w ↦ inl (sym c.is_finite.ensures ∙ w.if-is_finite.false)
+      | else-is_finite-via-then-is_finite+else-is_finite-2 w ↦ inr (sym w.is_finite-then-is_finite.ensures ∙ w.if-is_finite-2.false)
+      | else-is_finite-via-else-is_finite w ↦ inl (sym c.is_finite.ensures ∙ w.if-is_finite.false)
     ])

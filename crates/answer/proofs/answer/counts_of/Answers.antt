@@ -1,0 +1,9 @@
+-- `counts_of`: its two cases. Assumes nothing.
+use borrow.Author.Rules.{rules}
+use Rattle.answer.proofs.answer.counts_of.Goals as goal
+
+pub returns-in-Done : goal.returns-in-Done
+returns-in-Done c = rw c.answer-1.given.1
+
+pub returns-in-Refused : goal.returns-in-Refused
+returns-in-Refused c = rw c.enum_told-1.given.1

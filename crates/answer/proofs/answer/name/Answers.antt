@@ -1,0 +1,13 @@
+-- `name`: a refusal stays; else its one test. Assumes nothing.
+use borrow.Author.Rules.{rules}
+use borrow.Author.Tests.{lt-ltb, le-ltb}
+use Rattle.answer.proofs.answer.name.Goals as goal
+
+pub returns-then-face-faces : goal.returns-then-face-faces
+returns-then-face-faces c = rw c.answer-in-Done-1.given.1 (rw (lt-ltb _ _ c.if-face-faces.true))
+
+pub returns-in-Refused : goal.returns-in-Refused
+returns-in-Refused c = rw c.answer-1.given.1
+
+pub returns-else-face-faces : goal.returns-else-face-faces
+returns-else-face-faces c = rw c.answer-in-Done-1.given.1 (rw (le-ltb _ _ c.if-face-faces.false))

@@ -1,0 +1,17 @@
+use borrow.Author.Rules.{rules}
+use mathlib.Core.Path.{refl, ap, ◌∙◌}
+use mathlib.Core.Bool.{Bool, ◌&&◌}
+use Prim.Native.Nat.{◌-◌}
+use lib.ListN.{length}
+use Rattle.answer.specs.Checks.{below}
+use Rattle.answer.proofs.Laws.{Kept, kept_more, kept-all}
+use Rattle.answer.proofs.check.all_below.Goals as goal
+
+pub loop-i-init : goal.loop-i-init
+loop-i-init c = (search rules, refl)
+
+pub loop-i-preserved : goal.loop-i-preserved
+loop-i-preserved c = kept_more _ _ 0 _ c.loop-i.good _ c.loop-i.invariant c.loop-i-test.true (c.still-good.ensures ∙ ap (λ (x : Bool). c.loop-i.good && x) c.is_below.ensures)
+
+pub returns : goal.returns
+returns c = kept-all _ _ 0 _ _ c.loop-i.invariant c.loop-i-test.false

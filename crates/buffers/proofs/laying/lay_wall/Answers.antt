@@ -1,0 +1,6 @@
+-- `lay_wall`: the quad with its inset, laid. Assumes nothing.
+use borrow.Author.Rules.{rules}
+use Rattle.buffers.proofs.laying.lay_wall.Goals as goal
+
+pub returns : goal.returns
+returns c = rw c.inset_quad-part.ensures at c.lay_quad.ensures.buffers

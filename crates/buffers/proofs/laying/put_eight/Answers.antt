@@ -1,0 +1,22 @@
+use borrow.Author.Rules.{rules}
+use Prim.Native.Nat.{◌-◌}
+use native.Mathlib.Omega.{arith}
+use mathlib.Core.Path.{refl, sym}
+use Rattle.buffers.proofs.Laid.{laid-nothing, Laying, laying-more, laying-done}
+use Rattle.placement.specs.Placing.{stood}
+use Rattle.buffers.specs.Laying.{three}
+use lib.ListN.{get_or}
+use Rattle.face.specs.Vec.{off3}
+use Rattle.buffers.proofs.laying.put_eight.Goals as goal
+
+abbrev μ : goal.decreases-loop
+μ buffer₀ at t m ps k₀ buffer k = m - k
+
+pub loop-k-init : goal.loop-k-init
+loop-k-init c = (omega arith, refl, sym (laid-nothing _ _))
+
+pub loop-k-preserved : goal.loop-k-preserved
+loop-k-preserved c = laying-more _ 3 (λ k. refl) _ _ _ _ _ _ c.loop-k.invariant c.loop-k-test.true (rw c.stand_point.ensures at c.put3.ensures)
+
+pub returns : goal.returns
+returns c = laying-done _ _ _ _ _ _ c.loop-k.invariant c.loop-k-test.false

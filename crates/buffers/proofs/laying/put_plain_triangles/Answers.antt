@@ -1,0 +1,28 @@
+use borrow.Author.Rules.{rules}
+use Prim.Native.Nat.{◌-◌, ◌+◌, ◌≤◌}
+use native.Mathlib.Omega.{arith}
+use mathlib.Core.Path.{refl, sym}
+use lib.ListN.{get_or}
+use Rattle.face.specs.Triangles.{no_triangle}
+use Rattle.buffers.specs.Plain.{plain_triangles}
+use Rattle.buffers.proofs.PlainFaces.{plain-below}
+use Rattle.buffers.specs.Laying.{corners}
+use Rattle.buffers.proofs.Laid.{laid-nothing, Laying, laying-more, laying-done}
+use Rattle.buffers.proofs.Rooms.{numbered}
+use Rattle.buffers.proofs.laying.put_plain_triangles.Goals as goal
+
+abbrev μ : goal.decreases-loop
+μ buffer₀ at b m n k₀ buffer k = n - k
+
+pub loop-k-init : goal.loop-k-init
+loop-k-init c = (omega arith, refl, sym (laid-nothing _ _))
+
+pub put_corners-requires : goal.put_corners-requires
+put_corners-requires c = let p = c.requires in
+    let a = c.args in record { at_in_bounds = search rules; b_bound = numbered _ _ _ _ c.plain_triangle-t.ensures (plain-below a.m a.n p.0 c.loop-k.k c.loop-k-test.true) p.1.0 }
+
+pub loop-k-preserved : goal.loop-k-preserved
+loop-k-preserved c = laying-more _ 3 (λ k. refl) _ _ _ _ _ _ c.loop-k.invariant c.loop-k-test.true (rw c.plain_triangle-t.ensures at c.put_corners.ensures)
+
+pub returns : goal.returns
+returns c = laying-done _ _ _ _ _ _ c.loop-k.invariant c.loop-k-test.false

@@ -1,0 +1,14 @@
+-- `put_twelve`: a turn lays one point. Assumes nothing.
+use borrow.Author.Rules.{rules}
+use Prim.Native.Nat.{◌-◌}
+use native.Mathlib.Omega.{arith}
+use mathlib.Core.Path.{refl, sym}
+use Rattle.buffers.proofs.Laid.{laid-nothing, Laying, laying-more, laying-done}
+use Rattle.placement.specs.Placing.{stood}
+use Rattle.buffers.specs.Laying.{three}
+use lib.ListN.{get_or}
+use Rattle.face.specs.Vec.{off3}
+use Rattle.buffers.proofs.laying.put_twelve.Given as goal
+
+abbrev pub invariant-loop-k : goal.invariant-loop-k
+invariant-loop-k l = Laying (λ j. three (stood l.t (get_or l.ps j off3))) l.m l.initial.buffer l.at l.k l.buffer

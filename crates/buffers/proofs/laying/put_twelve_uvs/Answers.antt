@@ -1,0 +1,21 @@
+use borrow.Author.Rules.{rules}
+use Prim.Native.Nat.{◌-◌}
+use native.Mathlib.Omega.{arith}
+use mathlib.Core.Path.{refl, sym}
+use Rattle.buffers.proofs.Laid.{laid-nothing, Laying, laying-more, laying-done}
+use Rattle.buffers.specs.Laying.{two}
+use lib.ListN.{get_or}
+use Rattle.face.specs.Vec.{off2}
+use Rattle.buffers.proofs.laying.put_twelve_uvs.Goals as goal
+
+abbrev μ : goal.decreases-loop
+μ buffer₀ at m ts k₀ buffer k = m - k
+
+pub loop-k-init : goal.loop-k-init
+loop-k-init c = (omega arith, refl, sym (laid-nothing _ _))
+
+pub loop-k-preserved : goal.loop-k-preserved
+loop-k-preserved c = laying-more _ 2 (λ k. refl) _ _ _ _ _ _ c.loop-k.invariant c.loop-k-test.true c.put2.ensures
+
+pub returns : goal.returns
+returns c = laying-done _ _ _ _ _ _ c.loop-k.invariant c.loop-k-test.false

@@ -1,0 +1,6 @@
+-- `shift_quad`: its parts. Assumes nothing.
+use borrow.Author.Rules.{rules}
+use Rattle.buffers.proofs.plain.shift_quad.Goals as goal
+
+pub returns : goal.returns
+returns c = rw (c.four_uvs-uvs.ensures, c.shift_four-positions.ensures)

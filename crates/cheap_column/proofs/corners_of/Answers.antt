@@ -1,0 +1,18 @@
+use borrow.Author.Rules.{rules}
+use Prim.Native.Nat.{◌-◌}
+use mathlib.Core.Path.{refl}
+use Rattle.face.proofs.Filling.{Filled, filled_more, filled-all}
+use Rattle.mesh.specs.Stored.{corner_from}
+use Rattle.cheap_column.proofs.corners_of.Goals as goal
+
+abbrev μ : goal.decreases-loop
+μ corners out₀ k₀ out k = 6 - k
+
+pub loop-k-init : goal.loop-k-init
+loop-k-init c = (search rules, refl)
+
+pub loop-k-preserved : goal.loop-k-preserved
+loop-k-preserved c = filled_more _ 6 _ _ _ _ c.loop-k.invariant c.loop-k-test.true (search rules) refl
+
+pub returns : goal.returns
+returns c = filled-all _ 6 _ _ _ c.loop-k.invariant c.loop-k-test.false (search rules)

@@ -1,0 +1,6 @@
+-- `faces`: the plan, and one face. Assumes nothing.
+use borrow.Author.Rules.{rules}
+use Rattle.cheap_column.proofs.faces.Goals as goal
+
+pub returns : goal.returns
+returns c = rw c.plan.ensures at c.faces_if_done.ensures

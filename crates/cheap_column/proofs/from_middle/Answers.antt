@@ -1,0 +1,22 @@
+use borrow.Author.Rules.{rules}
+use Prim.Native.Nat.{◌-◌}
+use mathlib.Core.Path.{◌≡◌, refl}
+use lib.ListN.{length, get_or}
+use Rattle.face.specs.declared.vec.Vec3.{Vec3}
+use Rattle.face.specs.Vec.{off3, minus3}
+use Rattle.face.proofs.Filling.{Filled, filled_more, filled-map}
+use Rattle.cheap_column.proofs.from_middle.Goals as goal
+
+abbrev μ : goal.decreases-loop
+μ middle top out₀ k₀ out k = 6 - k
+
+pub loop-k-init : goal.loop-k-init
+loop-k-init c = (search rules, refl)
+
+pub loop-k-preserved : goal.loop-k-preserved
+loop-k-preserved c = filled_more _ 6 _ _ _ _ c.loop-k.invariant c.loop-k-test.true (search rules) c.sub3.ensures
+
+pub returns : goal.returns
+returns c = let a = c.args in
+    let l : length a.t1 ≡ 6 = search rules in
+    filled-map (λ (p : Vec3). minus3 p a.middle) a.t1 off3 6 _ _ _ c.loop-k.invariant c.loop-k-test.false (search rules) l

@@ -1,0 +1,9 @@
+-- `cap_counts`: those of a hexagon with its inset. Assumes nothing.
+use Rattle.std.proofs.Common.{rules}
+use Rattle.column.proofs.cap_counts.Goals as goal
+
+pub returns-in-Absent : goal.returns-in-Absent
+returns-in-Absent c = rw c.enum_told-1.given.1 c.zero.ensures
+
+pub returns-in-With : goal.returns-in-With
+returns-in-With c = rw (c.c-1.given.1, ← c.option_at-o.ensures) c.hexagon_counts.ensures

@@ -1,0 +1,15 @@
+-- `is_in_range`: the pairs, then the corners, then the table, then the place. Assumes nothing.
+use Rattle.std.proofs.Common.{sym, ◌∙◌, rules}
+use Rattle.column.proofs.is_in_range.Goals as goal
+
+pub returns-then-all_in_range-3 : goal.returns-then-all_in_range-3
+returns-then-all_in_range-3 c = rw (sym c.all_in_range.ensures ∙ c.if-all_in_range.true, sym c.all_in_range-then-all_in_range.ensures ∙ c.if-all_in_range-2.true, sym c.all_in_range-then-all_in_range-2.ensures ∙ c.if-all_in_range-3.true) c.is_place.ensures
+
+pub returns-else-all_in_range-3 : goal.returns-else-all_in_range-3
+returns-else-all_in_range-3 c = rw (sym c.all_in_range.ensures ∙ c.if-all_in_range.true, sym c.all_in_range-then-all_in_range.ensures ∙ c.if-all_in_range-2.true, sym c.all_in_range-then-all_in_range-2.ensures ∙ c.if-all_in_range-3.false)
+
+pub returns-else-all_in_range-2 : goal.returns-else-all_in_range-2
+returns-else-all_in_range-2 c = rw (sym c.all_in_range.ensures ∙ c.if-all_in_range.true, sym c.all_in_range-then-all_in_range.ensures ∙ c.if-all_in_range-2.false)
+
+pub returns-else-all_in_range : goal.returns-else-all_in_range
+returns-else-all_in_range c = rw (sym c.all_in_range.ensures ∙ c.if-all_in_range.false)

@@ -1,0 +1,12 @@
+-- `piece_of`: by the cases of the name. Assumes nothing.
+use Rattle.std.proofs.Common.{rules}
+use Rattle.column.proofs.names.piece_of.Goals as goal
+
+pub returns-in-OfSide : goal.returns-in-OfSide
+returns-in-OfSide c = rw c.name-1.given.1
+
+pub returns-in-Top : goal.returns-in-Top
+returns-in-Top c = rw (c.enum_told-1.given.1, c.top_stand.ensures)
+
+pub returns-in-Bottom : goal.returns-in-Bottom
+returns-in-Bottom c = rw (c.enum_told-in-Bottom-1.given.1, c.bottom_stand.ensures)

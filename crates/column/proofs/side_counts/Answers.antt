@@ -1,0 +1,13 @@
+-- `side_counts`: as many times those of a quad with its inset. Assumes nothing.
+use Rattle.std.proofs.Common.{rules}
+use Rattle.column.proofs.Counts.{quad-small}
+use Rattle.column.proofs.side_counts.Goals as goal
+
+pub times-requires : goal.times-requires
+times-requires c = rw c.quad_counts.ensures (quad-small c.option_at-o.result.inset)
+
+pub returns-in-Absent : goal.returns-in-Absent
+returns-in-Absent c = rw c.enum_told-1.given.1 c.zero.ensures
+
+pub returns-in-With : goal.returns-in-With
+returns-in-With c = rw (c.c-1.given.1, ← c.option_at-o.ensures, ← c.quad_counts.ensures) c.times.ensures.product

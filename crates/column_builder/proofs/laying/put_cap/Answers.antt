@@ -1,0 +1,24 @@
+-- `put_cap`: by the cases of the choice. Assumes nothing.
+use borrow.Author.Rules.{rules}
+use mathlib.Core.List.{[]}
+use mathlib.Core.Path.{sym, ap, ◌∙◌}
+use Rattle.placement.specs.declared.options.Choice.{Choice}
+use Rattle.placement.specs.declared.options.FaceOptions.{FaceOptions}
+use Rattle.placement.specs.Options.{option_at}
+use Rattle.buffers.specs.Laying.{four, laid_if_fits, lay_each}
+use Rattle.buffers.proofs.Each.{each_none, each-one}
+use Rattle.plane_builder.specs.Cap.{cap_mesh}
+use Rattle.column.specs.Column.{lists, cap_faces}
+use Rattle.column_builder.proofs.laying.put_cap.Goals as goal
+
+pub returns-in-Absent : goal.returns-in-Absent
+returns-in-Absent c = let a = c.args in
+    let ls = lists [] a.corners.now a.numbers.now a.marks.now in
+    sym (ap (λ (x : Choice). lay_each (cap_faces a.t ls x) a.at (four a.vertices.now a.normals.now a.uvs.now a.indices.now)) c.enum_told-1.given.1 ∙ each_none a.at (four a.vertices.now a.normals.now a.uvs.now a.indices.now))
+
+pub returns-in-With : goal.returns-in-With
+returns-in-With c = let a = c.args in
+    let ls = lists [] a.corners.now a.numbers.now a.marks.now in
+    c.put_cap.ensures
+    ∙ ap (λ (o : FaceOptions). laid_if_fits (cap_mesh a.t a.corners.now o) a.at (four a.vertices.now a.normals.now a.uvs.now a.indices.now)) c.option_at-o.ensures
+    ∙ sym (ap (λ (x : Choice). lay_each (cap_faces a.t ls x) a.at (four a.vertices.now a.normals.now a.uvs.now a.indices.now)) c.choice-1.given.1 ∙ each-one (cap_mesh a.t a.corners.now (option_at a.numbers.now a.marks.now c.choice-1.given.0.0)) a.at (four a.vertices.now a.normals.now a.uvs.now a.indices.now))

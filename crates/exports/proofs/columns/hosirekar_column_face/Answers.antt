@@ -1,0 +1,26 @@
+-- `hosirekar_column_face`: the function below it, with what is given carried from C and its answer to C. Assumes nothing.
+use borrow.Author.Rules.{rules}
+use Rattle.buffers.specs.Laying.{four}
+use Rattle.column.specs.declared.Column.{Column}
+use Rattle.column.specs.Column.{lists}
+use Rattle.column_builder.specs.Calls.{face_answer, faced}
+use Rattle.boundary.specs.ToC.{answer_to_c}
+use Rattle.exports.proofs.Carried.{carried}
+use Rattle.exports.proofs.columns.hosirekar_column_face.Goals as goal
+
+pub shape_of-vertices : goal.shape_of-vertices
+shape_of-vertices c = c.face.auto.1.1.1.1.1.1.0
+
+pub shape_of-normals : goal.shape_of-normals
+shape_of-normals c = c.face.auto.1.1.1.1.1.1.1.0
+
+pub shape_of-uvs : goal.shape_of-uvs
+shape_of-uvs c = c.face.auto.1.1.1.1.1.1.1.1.0
+
+pub shape_of-indices : goal.shape_of-indices
+shape_of-indices c = c.face.auto.1.1.1.1.1.1.1.1.1.0
+
+pub returns : goal.returns
+returns c = let a = c.args in
+    let B = four a.vertices.now a.normals.now a.uvs.now a.indices.now in
+    let same = c.column_of.ensures in record { answer = carried answer_to_c c.answer_to_c.ensures (carried (λ (j : Column). face_answer j (lists a.pairs.now a.corners.now a.numbers.now a.marks.now) a.number B) c.face.ensures.answer same); buffers = carried (λ (j : Column). faced j (lists a.pairs.now a.corners.now a.numbers.now a.marks.now) a.number B) c.face.ensures.buffers same }

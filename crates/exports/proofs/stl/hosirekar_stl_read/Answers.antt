@@ -1,0 +1,8 @@
+-- `hosirekar_stl_read`: the function below it, with its answer carried to C. Assumes nothing.
+use borrow.Author.Rules.{rules}
+use Rattle.boundary.specs.ToC.{answer_to_c}
+use Rattle.exports.proofs.Carried.{carried}
+use Rattle.exports.proofs.stl.hosirekar_stl_read.Goals as goal
+
+pub returns : goal.returns
+returns c = record { answer = carried answer_to_c c.answer_to_c.ensures c.read.ensures.answer; buffers = c.read.ensures.buffers }

@@ -1,0 +1,22 @@
+use borrow.Author.Rules.{rules}
+use Prim.Native.Nat.{◌-◌}
+use mathlib.Core.Path.{◌≡◌, refl}
+use lib.ListN.{length, get_or}
+use Rattle.face.specs.declared.vec.Vec2.{Vec2}
+use Rattle.face.specs.Vec.{off2, upright}
+use Rattle.face.proofs.Filling.{Filled, filled_more, filled-map}
+use Rattle.face.proofs.face.raise_six.Goals as goal
+
+abbrev μ : goal.decreases-loop
+μ y cs out₀ i₀ out i = 6 - i
+
+pub loop-i-init : goal.loop-i-init
+loop-i-init c = (search rules, refl)
+
+pub loop-i-preserved : goal.loop-i-preserved
+loop-i-preserved c = filled_more _ 6 _ _ _ _ c.loop-i.invariant c.loop-i-test.true (search rules) c.raise.ensures
+
+pub returns : goal.returns
+returns c = let a = c.args in
+    let l : length a.t1 ≡ 6 = search rules in
+    filled-map (λ (p : Vec2). upright p a.y) a.t1 off2 6 _ _ _ c.loop-i.invariant c.loop-i-test.false (search rules) l

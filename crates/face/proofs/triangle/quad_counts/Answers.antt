@@ -1,0 +1,12 @@
+-- `quad_counts`: the three kinds of inset. Assumes nothing.
+use borrow.Author.Rules.{rules}
+use Rattle.face.proofs.triangle.quad_counts.Goals as goal
+
+pub returns-in-None : goal.returns-in-None
+returns-in-None c = rw c.enum_told-1.given.1 c.counted.ensures
+
+pub returns-in-Centroid : goal.returns-in-Centroid
+returns-in-Centroid c = rw c.how-1.given.1 c.ring_counts.ensures
+
+pub returns-in-SmallestEdge : goal.returns-in-SmallestEdge
+returns-in-SmallestEdge c = rw c.how-in-SmallestEdge-1.given.1 c.ring_counts-in-SmallestEdge.ensures

@@ -1,0 +1,25 @@
+-- `ring_of_hexagon`: the connecting triangles, then the inner ones if they are kept. Assumes nothing.
+use borrow.Author.Rules.{rules}
+use mathlib.Core.Path.{sym, ap, ◌∙◌}
+use mathlib.Core.Bool.{Bool}
+use Prim.Native.Nat.{◌-◌}
+use lib.ListN.{get_or}
+use Rattle.face.specs.Triangles.{kept, hexagon_triangles, no_triangle}
+use Rattle.face.proofs.Ring.{ring-low, ring-high}
+use Rattle.face.proofs.triangle.ring_of_hexagon.Goals as goal
+
+pub returns-then-t-lt12 : goal.returns-then-t-lt12
+returns-then-t-lt12 c = let a = c.args in c.connection.ensures ∙ sym (ring-low a.k a.keep 6 hexagon_triangles a.t c.if-t-lt12.true)
+
+pub returns-then-keep : goal.returns-then-keep
+returns-then-keep c = let a = c.args in
+    c.reverse_if.ensures
+    ∙ c.hexagon_from.ensures
+    ∙ ap (λ (x : Bool). get_or (kept x 6 hexagon_triangles) (a.t - 12) no_triangle) (sym c.if-keep.true)
+    ∙ sym (ring-high a.k a.keep 6 hexagon_triangles a.t c.if-t-lt12.false)
+
+pub returns : goal.returns
+returns c = let a = c.args in
+    c.numbered.ensures
+    ∙ ap (λ (x : Bool). get_or (kept x 6 hexagon_triangles) (a.t - 12) no_triangle) (sym c.if-keep.false)
+    ∙ sym (ring-high a.k a.keep 6 hexagon_triangles a.t c.if-t-lt12.false)

@@ -1,0 +1,6 @@
+-- `one_of`: one over the length. Assumes nothing.
+use borrow.Author.Rules.{rules}
+use Rattle.face.proofs.uv_mapping.one_of.Goals as goal
+
+pub returns : goal.returns
+returns c = rw (c.one_over.ensures, c.len2.ensures)

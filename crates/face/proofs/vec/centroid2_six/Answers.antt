@@ -1,0 +1,19 @@
+use borrow.Author.Rules.{rules}
+use Prim.Native.Nat.{◌-◌}
+use native.Mathlib.Omega.{arith}
+use mathlib.Core.Path.{refl}
+use Rattle.face.specs.Vec.{plus2, over2, zero2, off2}
+use Rattle.face.proofs.Filling.{Summed, summed-more, middle-done, six}
+use Rattle.face.proofs.vec.centroid2_six.Goals as goal
+
+abbrev μ : goal.decreases-loop
+μ ps t₀ i₀ t i = 6 - i
+
+pub loop-i-init : goal.loop-i-init
+loop-i-init c = (search rules, refl)
+
+pub loop-i-preserved : goal.loop-i-preserved
+loop-i-preserved c = summed-more plus2 zero2 _ 6 off2 _ _ _ c.loop-i.invariant c.loop-i-test.true (search rules) c.add2-t.ensures
+
+pub returns : goal.returns
+returns c = middle-done plus2 zero2 over2 _ 6 _ _ _ c.loop-i.invariant (omega arith) (search rules) six

@@ -1,0 +1,11 @@
+-- `centroid3_four`: after i turns t is the sum of the first i points. Assumes nothing.
+use borrow.Author.Rules.{rules}
+use Prim.Native.Nat.{◌-◌}
+use native.Mathlib.Omega.{arith}
+use mathlib.Core.Path.{refl}
+use Rattle.face.specs.Vec.{plus3, over3, zero3, off3}
+use Rattle.face.proofs.Filling.{Summed, summed-more, middle-done, four}
+use Rattle.face.proofs.vec.centroid3_four.Given as goal
+
+abbrev pub invariant-loop-i : goal.invariant-loop-i
+invariant-loop-i l = Summed plus3 zero3 l.ps 4 l.i l.t

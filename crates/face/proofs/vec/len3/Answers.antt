@@ -1,0 +1,6 @@
+-- `len3`: the root of the square. Assumes nothing.
+use borrow.Author.Rules.{rules}
+use Rattle.face.proofs.vec.len3.Goals as goal
+
+pub returns : goal.returns
+returns c = rw (c.root.ensures, c.squared3.ensures)

@@ -1,0 +1,6 @@
+-- `normalize3`: the point times one over its length. Assumes nothing.
+use borrow.Author.Rules.{rules}
+use Rattle.face.proofs.vec.normalize3.Goals as goal
+
+pub returns : goal.returns
+returns c = rw (c.scale3.ensures, c.one_over.ensures)

@@ -1,0 +1,10 @@
+-- `foot_of`: a wall that stands on nothing has NaN. Assumes nothing.
+use borrow.Author.Rules.{rules}
+use Rattle.heightmap.proofs.Reading.{no_number}
+use Rattle.heightmap.proofs.grid.foot_of.Goals as goal
+
+pub returns-in-SidesOff : goal.returns-in-SidesOff
+returns-in-SidesOff c = rw c.enum_told-1.given.1 no_number
+
+pub returns-in-NothingBeyond : goal.returns-in-NothingBeyond
+returns-in-NothingBeyond c = rw c.enum_told-in-NothingBeyond-1.given.1 no_number

@@ -1,0 +1,6 @@
+-- `wall_at`: none where sides are off. Assumes nothing.
+use borrow.Author.Rules.{rules}
+use Rattle.heightmap.proofs.grid.wall_at.Goals as goal
+
+pub returns-in-With : goal.returns-in-With
+returns-in-With c = rw c.enum_told-in-With-1.given.1 c.wall_beside.ensures

@@ -1,0 +1,6 @@
+-- `cap_offset`: the position plus the way up. Assumes nothing.
+use borrow.Author.Rules.{rules}
+use Rattle.heightmap_faces.proofs.cap_offset.Goals as goal
+
+pub returns : goal.returns
+returns c = rw (c.add3.ensures, c.raise.ensures)

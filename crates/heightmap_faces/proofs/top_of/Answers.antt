@@ -1,0 +1,6 @@
+-- `top_of`: the hexagon by its promise. Assumes nothing.
+use borrow.Author.Rules.{rules}
+use Rattle.heightmap_faces.proofs.top_of.Goals as goal
+
+pub returns : goal.returns
+returns c = rw c.cap_hexagon-whole.ensures

@@ -1,0 +1,32 @@
+-- `put_all`: after k turns the first k cells are laid, the place is past them, and the cap kept is that of its number. Assumes nothing.
+use borrow.Author.Rules.{rules}
+use mathlib.Core.Path.{◌≡◌, sym, ap, ap₂, ◌∙◌}
+use native.Mathlib.Omega.{arith}
+use Rattle.buffers.specs.Laying.{Buffers, four, lay_each}
+use Rattle.heightmap.specs.Grid.{grid}
+use Rattle.heightmap.specs.HeightMap.{lists}
+use Prim.Native.Nat.{ℕ, ◌+◌, ◌*◌, ◌-◌, ◌≤◌}
+use mathlib.Core.List.{map}
+use mathlib.Core.Logic.{inl, inr, ⊎_elim}
+use native.Mathlib.Numerals.{add-one}
+use lib.ListN.{length}
+use Rattle.face.specs.Lists.{chain}
+use Rattle.buffers.specs.Mesh.{none}
+use Rattle.buffers.proofs.Each.{SoFar, so-far-none, each-lengths}
+use Rattle.heightmap.specs.declared.Name.TheVariants.{Cap}
+use mathlib.Core.Bool.{cond}
+use Rattle.answer.specs.Checks.{cell_count}
+use Rattle.heightmap.specs.HeightMap.{cell_names, mesh_of}
+use Rattle.heightmap_faces.specs.declared.kept.KeptTop.{KeptTop}
+use Rattle.heightmap_faces.specs.Speed.{top_of}
+use Rattle.heightmap_faces.specs.Kept.{top_by}
+use Rattle.heightmap_laying.specs.declared.Shared.{Shared}
+use Rattle.heightmap_laying.proofs.Cells.{shared-for, tops-kept, cell-more, all_laid_lem}
+use Rattle.heightmap_laying.proofs.Walls.{option-chosen}
+use Rattle.heightmap_laying.proofs.put_all.Given as goal
+
+abbrev pub invariant-loop-k : goal.invariant-loop-k
+invariant-loop-k l = (l.k ≤ l.n)
+    × (SoFar (map (mesh_of l.job (lists (grid l.cells l.neighbours l.fringe) l.customs l.corners l.numbers l.marks)) (chain (cell_names l.job (grid l.cells l.neighbours l.fringe)) l.k)) none (four l.initial.vertices l.initial.normals l.initial.uvs l.initial.indices) l.place (four l.vertices l.normals l.uvs l.indices)
+    × (((l.place.vertices.0 ≤ 250 * l.k) × (l.place.indices.0 ≤ 250 * l.k))
+    × (l.kept ≡ top_by l.corners l.numbers l.marks l.kept.number)))

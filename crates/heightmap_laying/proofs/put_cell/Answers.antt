@@ -1,0 +1,33 @@
+-- `put_cell`: the cap, then the walls, each at the place past what lies before it. Assumes nothing.
+use borrow.Author.Rules.{rules}
+use mathlib.Core.Path.{◌≡◌, sym, ap, ap₂, ◌∙◌}
+use native.Mathlib.Omega.{arith}
+use Rattle.buffers.specs.Laying.{Buffers, four, lay_each}
+use Rattle.heightmap.specs.Grid.{grid}
+use Rattle.heightmap.specs.HeightMap.{lists}
+use mathlib.Core.List.{[]}
+use Rattle.placement.specs.declared.placement.Stand.{Stand}
+use Rattle.buffers.specs.Mesh.{also, measure}
+use Rattle.buffers.proofs.Each.{so_far_more}
+use Rattle.heightmap.specs.HeightMap.{cap_offset, cap_stand}
+use Rattle.heightmap_faces.specs.Speed.{lifted}
+use Rattle.heightmap_laying.specs.declared.Shared.{Shared}
+use Rattle.heightmap_laying.specs.Shared.{top_faces, sides_faces}
+use Rattle.heightmap_laying.proofs.put_cell.Goals as goal
+
+pub put_cap_if-next-requires : goal.put_cap_if-next-requires
+put_cap_if-next-requires c = (omega (arith, c.requires.vertices_bound.0), omega (arith, c.requires.vertices_bound.1))
+
+pub put_sides-requires : goal.put_sides-requires
+put_sides-requires c = let m = c.put_cap_if-next.ensures.small in
+    let p = c.requires in record { s_value = p.0; vertices_bound = (omega (arith, m.0, p.1.0), omega (arith, m.1, p.1.1)) }
+
+pub returns : goal.returns
+returns c = let a = c.args in
+    let X = four a.vertices.now a.normals.now a.uvs.now a.indices.now in
+    let ls = lists (grid a.cells.now a.neighbours.now a.fringe.now) a.customs.now [] a.numbers.now a.marks.now in
+    let caps = a.s.job.caps in
+    let t = c.lift-t.ensures ∙ ap₂ lifted (ap (λ (x : Shared). x.stand) c.requires.s_value) (c.cap_offset.ensures ∙ ap₂ cap_offset c.position_at-at_cell.ensures c.height_at-height.ensures) in
+    let e = c.put_cap_if-next.ensures in
+    let f = c.put_sides.ensures in
+    let s = so_far_more (top_faces caps (cap_stand a.s.job ls.grid a.k) a.top) (sides_faces a.s.job ls a.k 6) a.at X _ _ _ _ (e.0 ∙ ap (λ (x : Stand). also a.at (measure (top_faces caps x a.top))) t, e.1.1 ∙ ap (λ (x : Stand). lay_each (top_faces caps x a.top) a.at X) t) f.0 f.1.1 in record { place = s.0; small = (omega (arith, e.1.0.0, f.1.0.0), omega (arith, e.1.0.1, f.1.0.1)); buffers = s.1 }

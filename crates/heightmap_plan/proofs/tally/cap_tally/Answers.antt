@@ -1,0 +1,14 @@
+-- `cap_tally`: one cap, or none. Assumes nothing.
+use borrow.Author.Rules.{rules}
+use mathlib.Core.Path.{sym}
+use mathlib.Core.List.{[]}
+use Rattle.heightmap.specs.Grid.{grid}
+use Rattle.heightmap.specs.HeightMap.{lists}
+use Rattle.heightmap_plan.proofs.Walking.{cap-on}
+use Rattle.heightmap_plan.proofs.tally.cap_tally.Goals as goal
+
+pub returns-in-Absent : goal.returns-in-Absent
+returns-in-Absent c = rw c.enum_told-1.given.1 c.nothing.ensures
+
+pub returns-in-With : goal.returns-in-With
+returns-in-With c = let a = c.args in rw (c.hexagon_counts.ensures, c.option_of-o.ensures) (sym (cap-on a.job (lists (grid [] [] []) a.customs.now [] a.numbers.now a.marks.now) a.k _ c.enum_told-in-With-1.given.1))

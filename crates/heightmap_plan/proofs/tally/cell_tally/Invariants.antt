@@ -1,0 +1,15 @@
+-- `cell_tally`: the sides seen so far, and the cap before them. Assumes nothing.
+use borrow.Author.Rules.{rules}
+use Prim.Native.Nat.{◌-◌, ◌≤◌}
+use mathlib.Core.Path.{◌≡◌, ap, ap₂, ◌∙◌}
+use mathlib.Core.List.{[]}
+use native.Mathlib.Numerals.{add-one}
+use native.Mathlib.Omega.{arith}
+use Rattle.heightmap.specs.Grid.{grid}
+use Rattle.heightmap.specs.HeightMap.{lists}
+use Rattle.heightmap_plan.specs.Walking.{both, sides_tally}
+use Rattle.heightmap_plan.proofs.Walking.{side-small, sides-small, cap-small, sides-more, cell-whole}
+use Rattle.heightmap_plan.proofs.tally.cell_tally.Given as goal
+
+abbrev pub invariant-loop-d : goal.invariant-loop-d
+invariant-loop-d l = (l.d ≤ 6) × (l.t ≡ sides_tally l.job (lists (grid l.cells l.neighbours l.fringe) l.customs [] l.numbers l.marks) l.k l.d)

@@ -1,0 +1,13 @@
+-- `cell_walls`: none where sides are off. Assumes nothing.
+use borrow.Author.Rules.{rules}
+use mathlib.Core.Path.{sym}
+use native.Mathlib.Omega.{arith}
+use Rattle.heightmap.specs.Grid.{grid}
+use Rattle.heightmap_plan.proofs.Walking.{no-walls}
+use Rattle.heightmap_plan.proofs.tally.cell_walls.Goals as goal
+
+pub returns-in-Absent : goal.returns-in-Absent
+returns-in-Absent c = let a = c.args in let g = grid a.cells.now a.neighbours.now a.fringe.now in let whole = rw c.enum_told-1.given.1 (sym (no-walls a.how g a.k a.n), omega arith) in record { sum = whole.0; small = whole.1 }
+
+pub returns-in-With : goal.returns-in-With
+returns-in-With c = let whole = rw c.enum_told-in-With-1.given.1 c.walls_beside.ensures in record { sum = whole.0; small = whole.1 }

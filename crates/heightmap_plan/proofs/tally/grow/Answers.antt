@@ -1,0 +1,6 @@
+-- `grow`: more faces, and the same cell. Assumes nothing.
+use borrow.Author.Rules.{rules}
+use Rattle.heightmap_plan.proofs.tally.grow.Goals as goal
+
+pub returns : goal.returns
+returns c = rw c.join.ensures

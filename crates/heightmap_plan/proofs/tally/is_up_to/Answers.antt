@@ -1,0 +1,9 @@
+-- `is_up_to`: by what is looked for. Assumes nothing.
+use borrow.Author.Rules.{rules}
+use Rattle.heightmap_plan.proofs.tally.is_up_to.Goals as goal
+
+pub returns-in-Face : goal.returns-in-Face
+returns-in-Face c = rw c.goal-1.given.1
+
+pub returns-in-Cell : goal.returns-in-Cell
+returns-in-Cell c = rw c.goal-in-Cell-1.given.1

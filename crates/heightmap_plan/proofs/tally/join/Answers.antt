@@ -1,0 +1,6 @@
+-- `join`: the sums of both. Assumes nothing.
+use borrow.Author.Rules.{rules}
+use Rattle.heightmap_plan.proofs.tally.join.Goals as goal
+
+pub returns : goal.returns
+returns c = rw c.add.ensures

@@ -1,0 +1,6 @@
+-- `walk_own`: both of the same sizes. Assumes nothing.
+use borrow.Author.Rules.{rules}
+use Rattle.heightmap_plan.proofs.tally.walk_own.Goals as goal
+
+pub returns : goal.returns
+returns c = rw (c.own_tally-2.ensures, c.own_tally.ensures)

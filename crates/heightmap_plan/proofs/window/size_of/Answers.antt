@@ -1,0 +1,9 @@
+-- `size_of`: by the cases of the name. Assumes nothing.
+use borrow.Author.Rules.{rules}
+use Rattle.heightmap_plan.proofs.window.size_of.Goals as goal
+
+pub returns-in-Cap : goal.returns-in-Cap
+returns-in-Cap c = rw c.enum_told-1.given.1 (rw (c.option_of-o.ensures, c.enum_told-1.given.1) at c.hexagon_counts.ensures)
+
+pub returns-in-Side : goal.returns-in-Side
+returns-in-Side c = rw c.enum_told-in-Side-1.given.1 (rw (c.option_of-o.ensures, c.enum_told-in-Side-1.given.1) at c.quad_counts.ensures)

@@ -1,0 +1,9 @@
+-- `reason_by`: by the wall. Assumes nothing.
+use borrow.Author.Rules.{rules}
+use Rattle.heightmap_why.proofs.reason_by.Goals as goal
+
+pub returns-in-AsHigh : goal.returns-in-AsHigh
+returns-in-AsHigh c = rw c.wall-1.given.1
+
+pub returns-in-Present : goal.returns-in-Present
+returns-in-Present c = rw c.enum_told-in-Present-1.given.1

@@ -1,0 +1,12 @@
+-- `join2_four`: a list of 4 is its 4 elements, and so is the other. Assumes nothing.
+use borrow.Author.Rules.{rules}
+use mathlib.Core.Path.{ap₂}
+use mathlib.Core.List.{List, ◌++◌}
+use Rattle.face.specs.declared.vec.Vec2.{Vec2}
+use Rattle.face.specs.Vec.{off2}
+use Rattle.face.proofs.Filling.{each_all}
+use Rattle.insetting.proofs.join2_four.Goals as goal
+
+pub returns : goal.returns
+returns c = let a = c.args in
+    ap₂ (λ (x y : List Vec2). x ++ y) (each_all a.t1 off2 4 (search rules)) (each_all a.t2 off2 4 (search rules))

@@ -1,0 +1,6 @@
+-- `mean2`: each component over the same number. Assumes nothing.
+use Rattle.std.proofs.Common.{rules}
+use Rattle.mesh.proofs.stored.mean2.Goals as goal
+
+pub returns : goal.returns
+returns c = rw c.nearest_u32_to_f32-n.ensures

@@ -1,0 +1,14 @@
+use Rattle.std.proofs.Common.{◌*◌, ◌∙◌, rules}
+use Rattle.face.specs.Vec.{plus2, zero2}
+use Rattle.mesh.specs.Stored.{uv_from}
+use Rattle.mesh.proofs.Moving.{Adding, adding-none, adding-more, adding-done}
+use Rattle.mesh.proofs.stored.sum_uvs.Goals as goal
+
+pub loop-left-init : goal.loop-left-init
+loop-left-init c = adding-none _ _ _ _
+
+pub loop-left-preserved : goal.loop-left-preserved
+loop-left-preserved c = adding-more _ _ _ _ _ _ _ c.loop-left.invariant c.loop-left-test.true (c.add2-t.ensures ∙ rw c.uv_at.ensures)
+
+pub returns : goal.returns
+returns c = adding-done _ _ _ _ _ _ c.loop-left.invariant c.loop-left-test.false

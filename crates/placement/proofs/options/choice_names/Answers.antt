@@ -1,0 +1,9 @@
+-- `choice_names`: nothing is asked of an absent choice. Assumes nothing.
+use borrow.Author.Rules.{rules}
+use Rattle.placement.proofs.options.choice_names.Goals as goal
+
+pub returns-in-Absent : goal.returns-in-Absent
+returns-in-Absent c = rw c.enum_told-1.given.1
+
+pub returns-in-With : goal.returns-in-With
+returns-in-With c = rw c.c-1.given.1 c.names_option.ensures

@@ -1,0 +1,9 @@
+-- `option_for`: by the cases of the choice. Assumes nothing.
+use borrow.Author.Rules.{rules}
+use Rattle.placement.proofs.options.option_for.Goals as goal
+
+pub returns-in-Absent : goal.returns-in-Absent
+returns-in-Absent c = rw c.enum_told-1.given.1 c.option_at.ensures
+
+pub returns-in-With : goal.returns-in-With
+returns-in-With c = rw c.c-1.given.1 c.option_at-in-With.ensures

@@ -1,0 +1,6 @@
+-- `half_turn`: its two cases. Assumes nothing.
+use borrow.Author.Rules.{rules}
+use Rattle.placement.proofs.placement.half_turn.Goals as goal
+
+pub returns-then-half : goal.returns-then-half
+returns-then-half c = rw c.if-half.true

@@ -1,0 +1,6 @@
+-- `stand_by`: with no origin. Assumes nothing.
+use borrow.Author.Rules.{rules}
+use Rattle.placement.proofs.placement.stand_by.Goals as goal
+
+pub returns : goal.returns
+returns c = rw c.stand_from.ensures

@@ -1,0 +1,6 @@
+-- `stand_normal`: step by step. Assumes nothing.
+use borrow.Author.Rules.{rules}
+use Rattle.placement.proofs.placement.stand_normal.Goals as goal
+
+pub returns : goal.returns
+returns c = rw (c.turn_by.ensures, c.half_turn.ensures)

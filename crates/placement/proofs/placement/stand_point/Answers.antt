@@ -1,0 +1,6 @@
+-- `stand_point`: placed, then moved by the origin. Assumes nothing.
+use borrow.Author.Rules.{rules}
+use Rattle.placement.proofs.placement.stand_point.Goals as goal
+
+pub returns : goal.returns
+returns c = rw (c.move_by.ensures, c.place_point.ensures)

@@ -1,0 +1,6 @@
+-- `alter`: the twelve uvs by their promise. Assumes nothing.
+use borrow.Author.Rules.{rules}
+use Rattle.plane_builder.proofs.cap.alter.Goals as goal
+
+pub returns : goal.returns
+returns c = rw c.alter_twelve-uvs.ensures

@@ -1,0 +1,6 @@
+-- `alter_first`: the six uvs by their promise, then the inset. Assumes nothing.
+use borrow.Author.Rules.{rules}
+use Rattle.plane_builder.proofs.cap.alter_first.Goals as goal
+
+pub returns : goal.returns
+returns c = rw (c.inset_hexagon.ensures, c.alter_six-uvs.ensures)

@@ -1,0 +1,6 @@
+-- `put_cap`: the hexagon, laid. Assumes nothing.
+use borrow.Author.Rules.{rules}
+use Rattle.plane_builder.proofs.cap.put_cap.Goals as goal
+
+pub returns : goal.returns
+returns c = rw c.cap_hexagon-h.ensures at c.lay_hexagon.ensures.buffers

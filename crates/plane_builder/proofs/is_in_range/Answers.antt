@@ -1,0 +1,13 @@
+-- `is_in_range`: the corners, then the table, then the place. Assumes nothing.
+use borrow.Author.Rules.{rules}
+use mathlib.Core.Path.{sym, ◌∙◌}
+use Rattle.plane_builder.proofs.is_in_range.Goals as goal
+
+pub returns-then-all_in_range-2 : goal.returns-then-all_in_range-2
+returns-then-all_in_range-2 c = rw (sym c.all_in_range.ensures ∙ c.if-all_in_range.true, sym c.all_in_range-then-all_in_range.ensures ∙ c.if-all_in_range-2.true) c.is_place.ensures
+
+pub returns-else-all_in_range-2 : goal.returns-else-all_in_range-2
+returns-else-all_in_range-2 c = rw (sym c.all_in_range.ensures ∙ c.if-all_in_range.true, sym c.all_in_range-then-all_in_range.ensures ∙ c.if-all_in_range-2.false)
+
+pub returns-else-all_in_range : goal.returns-else-all_in_range
+returns-else-all_in_range c = rw (sym c.all_in_range.ensures ∙ c.if-all_in_range.false)

@@ -1,0 +1,16 @@
+-- `count`: a number and the end of its line. Assumes nothing.
+use borrow.Author.Rules.{rules}
+use Rattle.sheet.specs.Readers.{count_of}
+use Rattle.sheet.proofs.reading_lines.count.Goals as goal
+
+pub returns-in_default : goal.returns-in_default
+unfolding count_of
+returns-in_default c = rw (← (rw c.enum_told-1.given.1 at c.decimal.ensures))
+
+pub returns-in_default-mark : goal.returns-in_default-mark
+unfolding count_of
+returns-in_default-mark c = rw (← (rw c.n-1.given.1 at c.decimal.ensures), ← (rw c.enum_told-in_default-mark-1.given.1 at c.mark.ensures))
+
+pub returns : goal.returns
+unfolding count_of
+returns c = rw (← (rw c.n-1.given.1 at c.decimal.ensures), ← (rw c.b-1.given.1 at c.mark.ensures))

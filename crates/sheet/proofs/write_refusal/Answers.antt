@@ -1,0 +1,6 @@
+-- `write_refusal`: the number is the refusal's. Assumes nothing.
+use borrow.Author.Rules.{rules}
+use Rattle.sheet.proofs.write_refusal.Goals as goal
+
+pub returns : goal.returns
+returns c = rw c.number_of-number.ensures at c.write_refusal.ensures

@@ -1,0 +1,13 @@
+-- `indices_have_room`: what is left of the room and what is taken of it are the whole. Assumes nothing.
+use borrow.Author.Rules.{rules}
+use native.Mathlib.Omega.{arith}
+use mathlib.Core.Path.{◌≡◌}
+use Prim.Native.Nat.{◌-◌, ◌+◌, ◌≤◌}
+use lib.ListN.{length}
+use Rattle.face.specs.Lists.{chain}
+use Rattle.sheet.specs.Meshes.{index_word}
+use Rattle.sheet.proofs.Rooms.{indices-over, indices-more, indices-within}
+use Rattle.sheet.proofs.writing_room.indices_have_room.Given as goal
+
+abbrev pub invariant-loop-k : goal.invariant-loop-k
+invariant-loop-k l = (l.k ≤ l.n) × (l.left + length (chain (index_word l.indices) l.k) ≡ l.room)

@@ -1,0 +1,18 @@
+use borrow.Author.Rules.{rules}
+use native.Mathlib.Omega.{arith}
+use Prim.Native.Nat.{ℕ, ◌-◌}
+use mathlib.Core.Path.{refl, sym}
+use Rattle.buffers.proofs.Laid.{laid-nothing, Stored, stored_next, stored-all}
+use Rattle.stl_reading.proofs.put_places.Goals as goal
+
+abbrev μ : goal.decreases-loop
+μ indices₀ n k₀ indices k = n - k
+
+pub loop-k-init : goal.loop-k-init
+loop-k-init c = (omega arith, refl, sym (laid-nothing _ _))
+
+pub loop-k-preserved : goal.loop-k-preserved
+loop-k-preserved c = stored_next (λ j. j) _ _ c.loop-k.k _ c.loop-k.invariant c.loop-k-test.true
+
+pub returns : goal.returns
+returns c = stored-all (λ j. j) _ _ 0 _ _ c.loop-k.invariant c.loop-k-test.false

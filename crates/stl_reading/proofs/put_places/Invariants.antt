@@ -1,0 +1,10 @@
+-- `put_places`: a turn lays one place more. Assumes nothing.
+use borrow.Author.Rules.{rules}
+use native.Mathlib.Omega.{arith}
+use Prim.Native.Nat.{ℕ, ◌-◌}
+use mathlib.Core.Path.{refl, sym}
+use Rattle.buffers.proofs.Laid.{laid-nothing, Stored, stored_next, stored-all}
+use Rattle.stl_reading.proofs.put_places.Given as goal
+
+abbrev pub invariant-loop-k : goal.invariant-loop-k
+invariant-loop-k l = Stored (λ (j : ℕ). j) l.n l.initial.indices 0 l.k l.indices

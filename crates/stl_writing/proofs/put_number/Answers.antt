@@ -1,0 +1,6 @@
+-- `put_number`: the bytes of its pattern. Assumes nothing.
+use borrow.Author.Rules.{rules}
+use Rattle.stl_writing.proofs.put_number.Goals as goal
+
+pub returns : goal.returns
+returns c = rw (c.put_four.ensures, c.bytes_of-four.ensures, c.pattern.ensures)
