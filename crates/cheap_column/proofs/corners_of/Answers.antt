@@ -5,9 +5,6 @@ use Rattle.face.proofs.Filling.{Filled, filled_more, filled-all}
 use Rattle.mesh.specs.Stored.{corner_from}
 use Rattle.cheap_column.proofs.corners_of.Goals as goal
 
-abbrev μ : goal.decreases-loop
-μ corners out₀ k₀ out k = 6 - k
-
 pub loop-k-init : goal.loop-k-init
 loop-k-init c = (search rules, refl)
 

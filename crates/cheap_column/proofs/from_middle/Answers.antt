@@ -7,9 +7,6 @@ use Rattle.face.specs.Vec.{off3, minus3}
 use Rattle.face.proofs.Filling.{Filled, filled_more, filled-map}
 use Rattle.cheap_column.proofs.from_middle.Goals as goal
 
-abbrev μ : goal.decreases-loop
-μ middle top out₀ k₀ out k = 6 - k
-
 pub loop-k-init : goal.loop-k-init
 loop-k-init c = (search rules, refl)
 
@@ -18,5 +15,5 @@ loop-k-preserved c = filled_more _ 6 _ _ _ _ c.loop-k.invariant c.loop-k-test.tr
 
 pub returns : goal.returns
 returns c = let a = c.args in
-    let l : length a.t1 ≡ 6 = search rules in
-    filled-map (λ (p : Vec3). minus3 p a.middle) a.t1 off3 6 _ _ _ c.loop-k.invariant c.loop-k-test.false (search rules) l
+    let l : length a.top ≡ 6 = search rules in
+    filled-map (λ (p : Vec3). minus3 p a.middle) a.top off3 6 _ _ _ c.loop-k.invariant c.loop-k-test.false (search rules) l

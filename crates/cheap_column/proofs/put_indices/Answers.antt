@@ -8,9 +8,6 @@ use Rattle.buffers.proofs.Laid.{laid-nothing, Copied, copied_more, copied_all}
 use Rattle.cheap_column.specs.CheapColumn.{cheap_triangles}
 use Rattle.cheap_column.proofs.put_indices.Goals as goal
 
-abbrev μ : goal.decreases-loop
-μ buffer₀ table k₀ buffer k = 48 - k
-
 pub loop-k-init : goal.loop-k-init
 loop-k-init c = (omega arith, refl, sym (laid-nothing _ _))
 

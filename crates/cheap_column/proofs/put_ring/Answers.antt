@@ -9,9 +9,6 @@ use Rattle.buffers.proofs.Laid.{laid-nothing, laid-three, Laying, laying-more}
 use Rattle.cheap_column.proofs.Cheap.{laying-all}
 use Rattle.cheap_column.proofs.put_ring.Goals as goal
 
-abbrev μ : goal.decreases-loop
-μ at buffer₀ ps k₀ buffer k = 6 - k
-
 pub loop-k-init : goal.loop-k-init
 loop-k-init c = (omega arith, refl, sym (laid-nothing _ _))
 
@@ -26,5 +23,5 @@ loop-k-preserved c = laying-more _ 3 (λ k. refl) _ _ _ _ _ _ c.loop-k.invariant
 
 pub returns : goal.returns
 returns c = let a = c.args in
-    let l : length a.t2 ≡ 6 = search rules in
-    laying-all three a.t2 off3 6 _ _ _ _ c.loop-k.invariant c.loop-k-test.false l
+    let l : length a.ps ≡ 6 = search rules in
+    laying-all three a.ps off3 6 _ _ _ _ c.loop-k.invariant c.loop-k-test.false l

@@ -3,7 +3,7 @@ use Rattle.std.proofs.Common.{rules}
 use Rattle.column.proofs.cap_counts.Goals as goal
 
 pub returns-in-Absent : goal.returns-in-Absent
-returns-in-Absent c = rw c.enum_told-1.given.1 c.zero.ensures
+returns-in-Absent c = rw c.in-Absent.is c.zero.ensures
 
 pub returns-in-With : goal.returns-in-With
-returns-in-With c = rw (c.c-1.given.1, ← c.option_at-o.ensures) c.hexagon_counts.ensures
+returns-in-With c = rw (c.in-With.is, ← c.option_at-o.ensures) c.hexagon_counts.ensures

@@ -3,10 +3,10 @@ use Rattle.std.proofs.Common.{rules, eq-eqb, ne_eqb}
 use Rattle.column.proofs.parts_of.Goals as goal
 
 pub returns-then-n-eq0 : goal.returns-then-n-eq0
-returns-then-n-eq0 c = rw c.s-1.given.1 (rw (eq-eqb _ _ c.if-n-eq0.true))
+returns-then-n-eq0 c = rw c.in-Of.is (rw (eq-eqb _ _ c.if-n-eq0.true))
 
 pub returns-in-Absent : goal.returns-in-Absent
-returns-in-Absent c = rw c.enum_told-1.given.1
+returns-in-Absent c = rw c.in-Absent.is
 
 pub returns-else-n-eq0 : goal.returns-else-n-eq0
-returns-else-n-eq0 c = rw c.s-1.given.1 (rw (ne_eqb _ _ c.if-n-eq0.false))
+returns-else-n-eq0 c = rw c.in-Of.is (rw (ne_eqb _ _ c.if-n-eq0.false))

@@ -7,7 +7,7 @@ pub times-requires : goal.times-requires
 times-requires c = rw c.quad_counts.ensures (quad-small c.option_at-o.result.inset)
 
 pub returns-in-Absent : goal.returns-in-Absent
-returns-in-Absent c = rw c.enum_told-1.given.1 c.zero.ensures
+returns-in-Absent c = rw c.in-Absent.is c.zero.ensures
 
 pub returns-in-With : goal.returns-in-With
-returns-in-With c = rw (c.c-1.given.1, ← c.option_at-o.ensures, ← c.quad_counts.ensures) c.times.ensures.product
+returns-in-With c = rw (c.in-With.is, ← c.option_at-o.ensures, ← c.quad_counts.ensures) c.times.ensures.product

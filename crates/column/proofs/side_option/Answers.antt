@@ -6,4 +6,4 @@ use Rattle.column.specs.Column.{no_side}
 use Rattle.column.proofs.side_option.Goals as goal
 
 pub returns : goal.returns
-returns c = sym (ap (λ (x : Side). x.option) (get_or-eq_default c.args.t1 no_side {n = c.args.d} (search rules)))
+returns c = sym (ap (λ (x : Side). x.option) (get_or-eq_default c.args.sides no_side {n = c.args.d} (search rules)))

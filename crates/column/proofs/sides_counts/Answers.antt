@@ -4,9 +4,6 @@ use Rattle.column.specs.Counts.{sides_counts}
 use Rattle.column.proofs.Counts.{side-most, sides-most}
 use Rattle.column.proofs.sides_counts.Goals as goal
 
-abbrev μ : goal.decreases-loop
-μ sides n s numbers marks t₀ d₀ t d = n - d
-
 pub loop-d-init : goal.loop-d-init
 loop-d-init c = (omega arith, c.zero-t.ensures)
 

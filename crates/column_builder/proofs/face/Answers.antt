@@ -17,13 +17,13 @@ pub returns-in-Refused : goal.returns-in-Refused
 returns-in-Refused c = let a = c.args in
     let X = four a.vertices.now a.normals.now a.uvs.now a.indices.now in
     let ls = lists a.pairs.now a.corners.now a.numbers.now a.marks.now in
-    let e = sym (rw (c.name-named.ensures, c.face_count.ensures ∙ face-total a.job ls, c.plan.ensures) at c.room-roomed.ensures) ∙ c.roomed-1.given.1 in record { answer = sym e; buffers = after-refused (face_answer a.job ls a.number X) X _ e }
+    let e = sym (rw (c.name-named.ensures, c.face_count.ensures ∙ face-total a.job ls, c.plan.ensures) at c.room-roomed.ensures) ∙ c.in-Refused.is in record { answer = sym e; buffers = after-refused (face_answer a.job ls a.number X) X _ e }
 
 pub returns-in-Done : goal.returns-in-Done
 returns-in-Done c = let a = c.args in
     let X = four a.vertices.now a.normals.now a.uvs.now a.indices.now in
     let ls = lists a.pairs.now a.corners.now a.numbers.now a.marks.now in
-    let e = sym (rw (c.name-named.ensures, c.face_count.ensures ∙ face-total a.job ls, c.plan.ensures) at c.room-roomed.ensures) ∙ c.roomed-in-Done-1.given.1 in
+    let e = sym (rw (c.name-named.ensures, c.face_count.ensures ∙ face-total a.job ls, c.plan.ensures) at c.room-roomed.ensures) ∙ c.in-Done.is in
     let r = face-ready a.job ls a.number X _ e in
     let n = c.name_of-name.result in record {
       answer = sym e;

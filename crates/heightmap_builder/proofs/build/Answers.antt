@@ -14,10 +14,10 @@ pub returns-in-Refused : goal.returns-in-Refused
 returns-in-Refused c = let a = c.args in
     let X = four a.vertices.now a.normals.now a.uvs.now a.indices.now in
     let ls = lists (grid a.cells.now a.neighbours.now a.fringe.now) a.customs.now a.corners.now a.numbers.now a.marks.now in
-    let e = sym (rw c.plan-planned.ensures at c.room-answer.ensures) ∙ c.answer-1.given.1 in record { answer = sym e; buffers = after-refused (whole_answer a.job ls X) X (lay_all (map_faces a.job ls) none X) e }
+    let e = sym (rw c.plan-planned.ensures at c.room-answer.ensures) ∙ c.in-Refused.is in record { answer = sym e; buffers = after-refused (whole_answer a.job ls X) X (lay_all (map_faces a.job ls) none X) e }
 
 pub returns-in-Done : goal.returns-in-Done
 returns-in-Done c = let a = c.args in
     let X = four a.vertices.now a.normals.now a.uvs.now a.indices.now in
     let ls = lists (grid a.cells.now a.neighbours.now a.fringe.now) a.customs.now a.corners.now a.numbers.now a.marks.now in
-    let e = sym (rw c.plan-planned.ensures at c.room-answer.ensures) ∙ c.answer-in-Done-1.given.1 in record { answer = sym e; buffers = c.put_all.ensures ∙ whole-laid a.job ls X _ e ∙ after-done (whole_answer a.job ls X) X (lay_all (map_faces a.job ls) none X) e }
+    let e = sym (rw c.plan-planned.ensures at c.room-answer.ensures) ∙ c.in-Done.is in record { answer = sym e; buffers = c.put_all.ensures ∙ whole-laid a.job ls X _ e ∙ after-done (whole_answer a.job ls X) X (lay_all (map_faces a.job ls) none X) e }

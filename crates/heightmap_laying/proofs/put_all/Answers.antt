@@ -24,9 +24,6 @@ use Rattle.heightmap_laying.proofs.Cells.{shared-for, tops-kept, cell-more, all_
 use Rattle.heightmap_laying.proofs.Walls.{option-chosen}
 use Rattle.heightmap_laying.proofs.put_all.Goals as goal
 
-abbrev μ : goal.decreases-loop
-μ job cells neighbours fringe customs corners numbers marks vertices₀ normals₀ uvs₀ indices₀ s o own kept₀ place₀ n k₀ vertices normals uvs indices kept place k = n - k
-
 pub loop-k-init : goal.loop-k-init
 loop-k-init c = let a = c.args in
     let e = c.top_by-own.ensures in

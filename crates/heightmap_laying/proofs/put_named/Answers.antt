@@ -21,7 +21,7 @@ returns-in-Cap c = let a = c.args in
     let ls = lists (grid a.cells.now a.neighbours.now a.fringe.now) a.customs.now a.corners.now a.numbers.now a.marks.now in
     c.lay_hexagon.ensures.buffers
     ∙ ap (λ (x : CapFace). laid_if_fits (top_mesh x.stand x.top) a.at X) c.cap_of-c.ensures
-    ∙ ap (λ (m : Mesh). laid_if_fits m a.at X) (sym (cap-is a.job ls c.name-1.given.0.0) ∙ ap (mesh_of a.job ls) (sym c.name-1.given.1))
+    ∙ ap (λ (m : Mesh). laid_if_fits m a.at X) (sym (cap-is a.job ls c.in-Cap.k) ∙ ap (mesh_of a.job ls) (sym c.in-Cap.is))
 
 pub returns-in-Side : goal.returns-in-Side
 returns-in-Side c = let a = c.args in
@@ -29,4 +29,4 @@ returns-in-Side c = let a = c.args in
     let ls = lists (grid a.cells.now a.neighbours.now a.fringe.now) a.customs.now a.corners.now a.numbers.now a.marks.now in
     rw c.wall_quad-q.ensures at c.lay_wall.ensures
     ∙ ap (λ (x : SideFace). laid_if_fits (level_mesh x.stand x.level x.left x.right x.foot) a.at X) c.side_of-f.ensures
-    ∙ ap (λ (m : Mesh). laid_if_fits m a.at X) (side-bare a.job (grid a.cells.now a.neighbours.now a.fringe.now) a.customs.now a.corners.now a.numbers.now a.marks.now c.name-in-Side-1.given.0.0 c.name-in-Side-1.given.0.1.0 ∙ ap (mesh_of a.job ls) (sym c.name-in-Side-1.given.1))
+    ∙ ap (λ (m : Mesh). laid_if_fits m a.at X) (side-bare a.job (grid a.cells.now a.neighbours.now a.fringe.now) a.customs.now a.corners.now a.numbers.now a.marks.now c.in-Side.k c.in-Side.d ∙ ap (mesh_of a.job ls) (sym c.in-Side.is))

@@ -20,9 +20,6 @@ use Rattle.heightmap_laying.specs.Shared.{sides_faces}
 use Rattle.heightmap_laying.proofs.Walls.{chosen_for, own-kept, level-chosen, side-more}
 use Rattle.heightmap_laying.proofs.put_sides.Goals as goal
 
-abbrev μ : goal.decreases-loop
-μ k cells neighbours fringe customs numbers marks vertices₀ normals₀ uvs₀ indices₀ job span t sides how top kept₀ place₀ d₀ vertices normals uvs indices kept place d = 6 - d
-
 pub loop-d-init : goal.loop-d-init
 loop-d-init c = let a = c.args in
     let p = c.requires.s_value in

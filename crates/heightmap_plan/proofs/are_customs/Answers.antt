@@ -4,7 +4,7 @@ use mathlib.Core.Path.{sym, ◌∙◌}
 use Rattle.heightmap_plan.proofs.are_customs.Goals as goal
 
 pub returns-then-is_exactly : goal.returns-then-is_exactly
-returns-then-is_exactly c = rw (c.enum_told-in-Listed-1.given.1, sym c.is_exactly.ensures ∙ c.if-is_exactly.true) c.all_name_options.ensures
+returns-then-is_exactly c = rw (c.in-Listed.is, sym c.is_exactly.ensures ∙ c.if-is_exactly.true) c.all_name_options.ensures
 
 pub returns-else-is_exactly : goal.returns-else-is_exactly
-returns-else-is_exactly c = rw (c.enum_told-in-Listed-1.given.1, sym c.is_exactly.ensures ∙ c.if-is_exactly.false)
+returns-else-is_exactly c = rw (c.in-Listed.is, sym c.is_exactly.ensures ∙ c.if-is_exactly.false)

@@ -3,4 +3,4 @@ use borrow.Author.Rules.{rules}
 use Rattle.heightmap_plan.proofs.is_fringe.Goals as goal
 
 pub returns-in-Listed : goal.returns-in-Listed
-returns-in-Listed c = rw c.enum_told-in-Listed-1.given.1 c.is_exactly.ensures
+returns-in-Listed c = rw c.in-Listed.is c.is_exactly.ensures

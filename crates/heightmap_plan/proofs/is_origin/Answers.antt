@@ -3,4 +3,4 @@ use borrow.Author.Rules.{rules}
 use Rattle.heightmap_plan.proofs.is_origin.Goals as goal
 
 pub returns-in-At : goal.returns-in-At
-returns-in-At c = rw c.origin-1.given.1 c.in_range2.ensures
+returns-in-At c = rw c.in-At.is c.in_range2.ensures

@@ -3,7 +3,7 @@ use borrow.Author.Rules.{rules}
 use Rattle.heightmap_why.proofs.reason_by.Goals as goal
 
 pub returns-in-AsHigh : goal.returns-in-AsHigh
-returns-in-AsHigh c = rw c.wall-1.given.1
+returns-in-AsHigh c = rw c.in-AsHigh.is
 
 pub returns-in-Present : goal.returns-in-Present
-returns-in-Present c = rw c.enum_told-in-Present-1.given.1
+returns-in-Present c = rw c.in-Present.is

@@ -6,9 +6,6 @@ use Rattle.insetting.specs.Edges.{uv_by_at}
 use Rattle.face.proofs.Filling.{Filled, filled_more, filled-all}
 use Rattle.insetting.proofs.edge2_six.Goals as goal
 
-abbrev μ : goal.decreases-loop
-μ k ts ls out₀ i₀ out i = 6 - i
-
 pub loop-i-init : goal.loop-i-init
 loop-i-init c = (search rules, refl)
 
@@ -16,5 +13,5 @@ pub loop-i-preserved : goal.loop-i-preserved
 loop-i-preserved c = filled_more _ 6 _ _ _ _ c.loop-i.invariant c.loop-i-test.true (search rules) c.edge_uv.ensures
 
 pub returns : goal.returns
-returns c = let l : length c.args.t2 ≡ 6 = search rules in
+returns c = let l : length c.args.ls ≡ 6 = search rules in
     rw l (filled-all _ 6 _ _ _ c.loop-i.invariant c.loop-i-test.false (search rules))

@@ -4,11 +4,11 @@ use Rattle.insetting.proofs.Lengths.{edged3-by, edged2-by}
 use Rattle.insetting.proofs.inset_hexagon.Goals as goal
 
 pub returns-in-None : goal.returns-in-None
-returns-in-None c = rw c.enum_told-1.given.1 c.hexagon_around.ensures
+returns-in-None c = rw c.in-None.is c.hexagon_around.ensures
 
 pub returns-in-Centroid : goal.returns-in-Centroid
 returns-in-Centroid c = rw (
-  c.how-1.given.1,
+  c.in-Centroid.is,
   c.hexagon_around-in-Centroid.ensures,
   c.shrink2_six.ensures,
   c.shrink3_six.ensures,
@@ -17,7 +17,7 @@ returns-in-Centroid c = rw (
 pub returns-in-SmallestEdge : goal.returns-in-SmallestEdge
 returns-in-SmallestEdge c = let f = c.args.h in
     rw (
-      c.how-in-SmallestEdge-1.given.1,
+      c.in-SmallestEdge.is,
       c.hexagon_around-in-SmallestEdge.ensures,
       c.edge2_six.ensures,
       c.edge3_six.ensures,

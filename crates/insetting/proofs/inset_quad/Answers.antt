@@ -4,11 +4,11 @@ use Rattle.insetting.proofs.Lengths.{edged3-by, edged2-by}
 use Rattle.insetting.proofs.inset_quad.Goals as goal
 
 pub returns-in-None : goal.returns-in-None
-returns-in-None c = rw c.enum_told-1.given.1 c.quad_around.ensures
+returns-in-None c = rw c.in-None.is c.quad_around.ensures
 
 pub returns-in-Centroid : goal.returns-in-Centroid
 returns-in-Centroid c = rw (
-  c.how-1.given.1,
+  c.in-Centroid.is,
   c.quad_around-in-Centroid.ensures,
   c.shrink2_four.ensures,
   c.shrink3_four.ensures,
@@ -17,7 +17,7 @@ returns-in-Centroid c = rw (
 pub returns-in-SmallestEdge : goal.returns-in-SmallestEdge
 returns-in-SmallestEdge c = let f = c.args.q in
     rw (
-      c.how-in-SmallestEdge-1.given.1,
+      c.in-SmallestEdge.is,
       c.quad_around-in-SmallestEdge.ensures,
       c.edge2_four.ensures,
       c.edge3_four.ensures,

@@ -9,4 +9,4 @@ use Rattle.insetting.proofs.join2_four.Goals as goal
 
 pub returns : goal.returns
 returns c = let a = c.args in
-    ap₂ (λ (x y : List Vec2). x ++ y) (each_all a.t1 off2 4 (search rules)) (each_all a.t2 off2 4 (search rules))
+    ap₂ (λ (x y : List Vec2). x ++ y) (each_all a.a off2 4 (search rules)) (each_all a.b off2 4 (search rules))

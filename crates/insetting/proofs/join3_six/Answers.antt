@@ -9,4 +9,4 @@ use Rattle.insetting.proofs.join3_six.Goals as goal
 
 pub returns : goal.returns
 returns c = let a = c.args in
-    ap₂ (λ (x y : List Vec3). x ++ y) (each_all a.t1 off3 6 (search rules)) (each_all a.t2 off3 6 (search rules))
+    ap₂ (λ (x y : List Vec3). x ++ y) (each_all a.a off3 6 (search rules)) (each_all a.b off3 6 (search rules))

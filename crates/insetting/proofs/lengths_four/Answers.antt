@@ -6,9 +6,6 @@ use Rattle.insetting.specs.Edges.{edge_at}
 use Rattle.face.proofs.Filling.{Filled, filled_more, filled-all}
 use Rattle.insetting.proofs.lengths_four.Goals as goal
 
-abbrev μ : goal.decreases-loop
-μ ps out₀ i₀ out i = 4 - i
-
 pub loop-i-init : goal.loop-i-init
 loop-i-init c = (search rules, refl)
 
@@ -16,5 +13,5 @@ pub loop-i-preserved : goal.loop-i-preserved
 loop-i-preserved c = filled_more _ 4 _ _ _ _ c.loop-i.invariant c.loop-i-test.true (search rules) c.length_of.ensures
 
 pub returns : goal.returns
-returns c = let l : length c.args.t1 ≡ 4 = search rules in
+returns c = let l : length c.args.ps ≡ 4 = search rules in
     rw l (filled-all _ 4 _ _ _ c.loop-i.invariant c.loop-i-test.false (search rules))

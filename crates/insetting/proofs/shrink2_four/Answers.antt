@@ -7,9 +7,6 @@ use Rattle.face.specs.Inset.{toward2}
 use Rattle.face.proofs.Filling.{Filled, filled_more, filled-map}
 use Rattle.insetting.proofs.shrink2_four.Goals as goal
 
-abbrev μ : goal.decreases-loop
-μ k ps c out₀ i₀ out i = 4 - i
-
 pub loop-i-init : goal.loop-i-init
 loop-i-init c = (search rules, refl)
 
@@ -18,6 +15,6 @@ loop-i-preserved c = filled_more _ 4 _ _ _ _ c.loop-i.invariant c.loop-i-test.tr
 
 pub returns : goal.returns
 returns c = let a = c.args in
-    let l : length a.t1 ≡ 4 = search rules in
+    let l : length a.ps ≡ 4 = search rules in
     let g = c.centroid2_four-c in
-    rw (← g.ensures) (filled-map (toward2 g.result a.k) a.t1 off2 4 a.t1 _ _ c.loop-i.invariant c.loop-i-test.false l l)
+    rw (← g.ensures) (filled-map (toward2 g.result a.k) a.ps off2 4 a.ps _ _ c.loop-i.invariant c.loop-i-test.false l l)

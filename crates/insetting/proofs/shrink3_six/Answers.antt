@@ -7,9 +7,6 @@ use Rattle.face.specs.Inset.{toward3}
 use Rattle.face.proofs.Filling.{Filled, filled_more, filled-map}
 use Rattle.insetting.proofs.shrink3_six.Goals as goal
 
-abbrev μ : goal.decreases-loop
-μ k ps c out₀ i₀ out i = 6 - i
-
 pub loop-i-init : goal.loop-i-init
 loop-i-init c = (search rules, refl)
 
@@ -18,6 +15,6 @@ loop-i-preserved c = filled_more _ 6 _ _ _ _ c.loop-i.invariant c.loop-i-test.tr
 
 pub returns : goal.returns
 returns c = let a = c.args in
-    let l : length a.t1 ≡ 6 = search rules in
+    let l : length a.ps ≡ 6 = search rules in
     let g = c.centroid3_six-c in
-    rw (← g.ensures) (filled-map (toward3 g.result a.k) a.t1 off3 6 a.t1 _ _ c.loop-i.invariant c.loop-i-test.false l l)
+    rw (← g.ensures) (filled-map (toward3 g.result a.k) a.ps off3 6 a.ps _ _ c.loop-i.invariant c.loop-i-test.false l l)

@@ -7,9 +7,6 @@ use lib.Ieee.{binary32, of_bits}
 use Rattle.face.proofs.Filling.{Filled, filled_more, filled-map}
 use Rattle.sheet.proofs.fill_floats.Goals as goal
 
-abbrev μ : goal.decreases-loop
-μ patterns out₀ i₀ end out i = length patterns - i
-
 pub loop-i-init : goal.loop-i-init
 loop-i-init c = (refl, refl, (omega arith, refl))
 

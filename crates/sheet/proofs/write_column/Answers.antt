@@ -8,8 +8,8 @@ use Rattle.sheet.proofs.write_column.Goals as goal
 
 pub returns-in-Refused : goal.returns-in-Refused
 returns-in-Refused c = let a = c.args in
-    refusal-written a.job (lists a.pairs.now a.corners.now [] []) blank blank-roomy _ (sym c.build-answer.ensures.answer ∙ c.answer-1.given.1) _ _ _ c.write_refusal.ensures
+    refusal-written a.job (lists a.pairs.now a.corners.now [] []) blank blank-roomy _ (sym c.build-answer.ensures.answer ∙ c.in-Refused.is) _ _ _ c.write_refusal.ensures
 
 pub returns-in-Done : goal.returns-in-Done
 returns-in-Done c = let a = c.args in
-    mesh-written a.job (lists a.pairs.now a.corners.now [] []) blank blank-roomy _ (sym c.build-answer.ensures.answer ∙ c.answer-in-Done-1.given.1) _ c.build-answer.ensures.buffers _ _ _ c.write_mesh.ensures
+    mesh-written a.job (lists a.pairs.now a.corners.now [] []) blank blank-roomy _ (sym c.build-answer.ensures.answer ∙ c.in-Done.is) _ c.build-answer.ensures.buffers _ _ _ c.write_mesh.ensures

@@ -5,9 +5,6 @@ use mathlib.Core.Path.{refl, sym}
 use Rattle.buffers.proofs.Laid.{laid-nothing, Stored, stored_next, stored-all}
 use Rattle.stl_reading.proofs.put_places.Goals as goal
 
-abbrev μ : goal.decreases-loop
-μ indices₀ n k₀ indices k = n - k
-
 pub loop-k-init : goal.loop-k-init
 loop-k-init c = (omega arith, refl, sym (laid-nothing _ _))
 

@@ -8,9 +8,6 @@ use Rattle.stl_reading.specs.Reading.{corners_of, normals_of}
 use Rattle.stl_reading.proofs.Unpacking.{nine-more}
 use Rattle.stl_reading.proofs.put_points.Goals as goal
 
-abbrev μ : goal.decreases-loop
-μ file t vertices₀ normals₀ k₀ vertices normals k = t - k
-
 pub loop-k-init : goal.loop-k-init
 loop-k-init c = ((omega arith, refl, sym (laid-nothing _ _)), (omega arith, refl, sym (laid-nothing _ _)))
 

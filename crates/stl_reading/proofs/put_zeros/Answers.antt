@@ -6,9 +6,6 @@ use Rattle.face.specs.Vec.{f0}
 use Rattle.buffers.proofs.Laid.{laid-nothing, Stored, stored_next, stored-all}
 use Rattle.stl_reading.proofs.put_zeros.Goals as goal
 
-abbrev μ : goal.decreases-loop
-μ uvs₀ n k₀ uvs k = n - k
-
 pub loop-k-init : goal.loop-k-init
 loop-k-init c = (omega arith, refl, sym (laid-nothing _ _))
 

@@ -9,9 +9,6 @@ use Rattle.stl.specs.File.{facet_bytes}
 use Rattle.stl_writing.specs.Writing.{facet_from}
 use Rattle.stl_writing.proofs.put_facets.Goals as goal
 
-abbrev μ : goal.decreases-loop
-μ vertices normals indices t bytes₀ k₀ bytes k = t - k
-
 pub loop-k-init : goal.loop-k-init
 loop-k-init c = (omega arith, refl, sym (laid-nothing _ _))
 

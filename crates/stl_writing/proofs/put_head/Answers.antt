@@ -9,9 +9,6 @@ use Rattle.buffers.proofs.Laid.{laid-nothing, Stored, stored_next, stored-all}
 use Rattle.stl_writing.proofs.Putting.{head-laid}
 use Rattle.stl_writing.proofs.put_head.Goals as goal
 
-abbrev μ : goal.decreases-loop
-μ bytes₀ triangles k₀ bytes k = 80 - k
-
 pub loop-k-init : goal.loop-k-init
 loop-k-init c = (omega arith, refl, sym (laid-nothing _ _))
 

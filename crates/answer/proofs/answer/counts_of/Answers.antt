@@ -3,7 +3,7 @@ use borrow.Author.Rules.{rules}
 use Rattle.answer.proofs.answer.counts_of.Goals as goal
 
 pub returns-in-Done : goal.returns-in-Done
-returns-in-Done c = rw c.answer-1.given.1
+returns-in-Done c = rw c.in-Done.is
 
 pub returns-in-Refused : goal.returns-in-Refused
-returns-in-Refused c = rw c.enum_told-1.given.1
+returns-in-Refused c = rw c.in-Refused.is

@@ -4,10 +4,10 @@ use borrow.Author.Tests.{lt-ltb, le-ltb}
 use Rattle.answer.proofs.answer.name.Goals as goal
 
 pub returns-then-face-faces : goal.returns-then-face-faces
-returns-then-face-faces c = rw c.answer-in-Done-1.given.1 (rw (lt-ltb _ _ c.if-face-faces.true))
+returns-then-face-faces c = rw c.in-Done.is (rw (lt-ltb _ _ c.if-face-faces.true))
 
 pub returns-in-Refused : goal.returns-in-Refused
-returns-in-Refused c = rw c.answer-1.given.1
+returns-in-Refused c = rw c.in-Refused.is
 
 pub returns-else-face-faces : goal.returns-else-face-faces
-returns-else-face-faces c = rw c.answer-in-Done-1.given.1 (rw (le-ltb _ _ c.if-face-faces.false))
+returns-else-face-faces c = rw c.in-Done.is (rw (le-ltb _ _ c.if-face-faces.false))

@@ -6,4 +6,4 @@ use borrow.Author.Rules.{rules}
 use Rattle.arith_cases.proofs.record.count.Goals as goal
 
 pub returns-in-Number : goal.returns-in-Number
-returns-in-Number c = subst (Below (10 ^ 8)) c.n-1.given.1 c.cell.ensures
+returns-in-Number c = subst (Below (10 ^ 8)) c.in-Number.is c.cell.ensures

@@ -3,7 +3,7 @@ use borrow.Author.Rules.{rules}
 use Rattle.boundary.proofs.to_c.why_to_c.Goals as goal
 
 pub returns-in-Refused : goal.returns-in-Refused
-returns-in-Refused c = rw (c.told-1.given.1, c.answer_to_c.ensures)
+returns-in-Refused c = rw (c.in-Refused.is, c.answer_to_c.ensures)
 
 pub returns-in-Because : goal.returns-in-Because
-returns-in-Because c = rw (c.told-in-Because-1.given.1, c.reason_face.ensures, c.reason_height.ensures, c.reason_code.ensures, c.answer_to_c-in-Because.ensures)
+returns-in-Because c = rw (c.in-Because.is, c.reason_face.ensures, c.reason_height.ensures, c.reason_code.ensures, c.answer_to_c-in-Because.ensures)

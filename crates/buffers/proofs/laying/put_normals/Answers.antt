@@ -6,9 +6,6 @@ use Rattle.buffers.proofs.Laid.{laid-nothing, Laying, laying-more, laying-done}
 use Rattle.buffers.specs.Laying.{three}
 use Rattle.buffers.proofs.laying.put_normals.Goals as goal
 
-abbrev μ : goal.decreases-loop
-μ buffer₀ at normal m k₀ buffer k = m - k
-
 pub loop-k-init : goal.loop-k-init
 loop-k-init c = (omega arith, refl, sym (laid-nothing _ _))
 

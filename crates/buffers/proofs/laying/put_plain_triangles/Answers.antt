@@ -11,9 +11,6 @@ use Rattle.buffers.proofs.Laid.{laid-nothing, Laying, laying-more, laying-done}
 use Rattle.buffers.proofs.Rooms.{numbered}
 use Rattle.buffers.proofs.laying.put_plain_triangles.Goals as goal
 
-abbrev μ : goal.decreases-loop
-μ buffer₀ at b m n k₀ buffer k = n - k
-
 pub loop-k-init : goal.loop-k-init
 loop-k-init c = (omega arith, refl, sym (laid-nothing _ _))
 

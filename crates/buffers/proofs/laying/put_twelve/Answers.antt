@@ -9,9 +9,6 @@ use lib.ListN.{get_or}
 use Rattle.face.specs.Vec.{off3}
 use Rattle.buffers.proofs.laying.put_twelve.Goals as goal
 
-abbrev μ : goal.decreases-loop
-μ buffer₀ at t m ps k₀ buffer k = m - k
-
 pub loop-k-init : goal.loop-k-init
 loop-k-init c = (omega arith, refl, sym (laid-nothing _ _))
 

@@ -9,4 +9,4 @@ use Rattle.buffers.specs.Plain.{uvs_of}
 use Rattle.buffers.proofs.plain.four_uvs.Goals as goal
 
 pub returns : goal.returns
-returns c = ap (λ (l : List Vec2). uvs_of (l ++ l)) (each_all c.args.t1 off2 4 (search rules))
+returns c = ap (λ (l : List Vec2). uvs_of (l ++ l)) (each_all c.args.ts off2 4 (search rules))

@@ -12,4 +12,4 @@ use Rattle.buffers.proofs.plain.shift_four.Goals as goal
 pub returns : goal.returns
 returns c = let a = c.args in
     rw (c.shift_point-d.ensures, c.shift_point-c.ensures, c.shift_point-b.ensures, c.shift_point-a.ensures)
-    (ap (λ (l : List Vec3). points_by (shift_of a.t) (l ++ l)) (each_all a.t2 off3 4 (search rules)))
+    (ap (λ (l : List Vec3). points_by (shift_of a.t) (l ++ l)) (each_all a.ps off3 4 (search rules)))

@@ -12,4 +12,4 @@ use Rattle.buffers.proofs.plain.stand_four.Goals as goal
 pub returns : goal.returns
 returns c = let a = c.args in
     rw (c.stand_point-d.ensures, c.stand_point-c.ensures, c.stand_point-b.ensures, c.stand_point-a.ensures)
-    (ap (λ (l : List Vec3). points_by (stood a.t) (l ++ l)) (each_all a.t2 off3 4 (search rules)))
+    (ap (λ (l : List Vec3). points_by (stood a.t) (l ++ l)) (each_all a.ps off3 4 (search rules)))

@@ -3,9 +3,6 @@ use Rattle.face.specs.Lists.{chain}
 use Rattle.column.proofs.Numbering.{walls, walls-more, name-count, faces-few}
 use Rattle.column.proofs.names.face_count.Goals as goal
 
-abbrev μ : goal.decreases-loop
-μ sides top bottom parts t₀ d₀ t d = 6 - d
-
 pub loop-d-init : goal.loop-d-init
 loop-d-init c = (omega arith, refl, omega arith)
 

@@ -5,9 +5,6 @@ use Rattle.column.specs.Names.{side_faces}
 use Rattle.column.proofs.Numbering.{walls, walls-more, faces-few, stands-part, stands-name, cap-named}
 use Rattle.column.proofs.names.name_of.Goals as goal
 
-abbrev μ : goal.decreases-loop
-μ number sides top parts left₀ d₀ left d = 6 - d
-
 pub loop-d-init : goal.loop-d-init
 loop-d-init c = (omega arith, omega arith)
 

@@ -3,10 +3,10 @@ use Rattle.std.proofs.Common.{rules}
 use Rattle.column.proofs.names.piece_of.Goals as goal
 
 pub returns-in-OfSide : goal.returns-in-OfSide
-returns-in-OfSide c = rw c.name-1.given.1
+returns-in-OfSide c = rw c.in-OfSide.is
 
 pub returns-in-Top : goal.returns-in-Top
-returns-in-Top c = rw (c.enum_told-1.given.1, c.top_stand.ensures)
+returns-in-Top c = rw (c.in-Top.is, c.top_stand.ensures)
 
 pub returns-in-Bottom : goal.returns-in-Bottom
-returns-in-Bottom c = rw (c.enum_told-in-Bottom-1.given.1, c.bottom_stand.ensures)
+returns-in-Bottom c = rw (c.in-Bottom.is, c.bottom_stand.ensures)

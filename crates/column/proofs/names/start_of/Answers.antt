@@ -18,12 +18,12 @@ add-requires-in-Bottom c = let s = c.sides_counts-walls.ensures.small in
     rw c.cap_counts.ensures (omega (arith, s.0, m.0), omega (arith, s.1, m.1))
 
 pub returns-in-OfSide : goal.returns-in-OfSide
-returns-in-OfSide c = rw c.name-1.given.1
+returns-in-OfSide c = rw c.in-OfSide.is
     ((rw (c.sides_counts.ensures.sum, c.times-below.ensures.product, c.quad_counts.ensures, c.option_for-o.ensures, c.side_option.ensures, c.parts_of-parts.ensures) at c.add.ensures))
 
 pub returns-in-Top : goal.returns-in-Top
-returns-in-Top c = rw (c.enum_told-1.given.1, ← c.parts_of-parts.ensures) c.sides_counts-in-Top.ensures.sum
+returns-in-Top c = rw (c.in-Top.is, ← c.parts_of-parts.ensures) c.sides_counts-in-Top.ensures.sum
 
 pub returns-in-Bottom : goal.returns-in-Bottom
-returns-in-Bottom c = rw c.enum_told-in-Bottom-1.given.1
+returns-in-Bottom c = rw c.in-Bottom.is
     ((rw (c.cap_counts.ensures, c.sides_counts-walls.ensures.sum, c.parts_of-parts.ensures) at c.add-in-Bottom.ensures))

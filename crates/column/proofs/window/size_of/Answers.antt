@@ -3,10 +3,10 @@ use Rattle.std.proofs.Common.{rules}
 use Rattle.column.proofs.window.size_of.Goals as goal
 
 pub returns-in-OfSide : goal.returns-in-OfSide
-returns-in-OfSide c = rw c.name-1.given.1 (rw (c.option_for-o.ensures, c.side_option.ensures) at c.quad_counts.ensures)
+returns-in-OfSide c = rw c.in-OfSide.is (rw (c.option_for-o.ensures, c.side_option.ensures) at c.quad_counts.ensures)
 
 pub returns-in-Top : goal.returns-in-Top
-returns-in-Top c = rw c.enum_told-1.given.1 (rw c.option_for-o-in-Top.ensures at c.hexagon_counts.ensures)
+returns-in-Top c = rw c.in-Top.is (rw c.option_for-o-in-Top.ensures at c.hexagon_counts.ensures)
 
 pub returns-in-Bottom : goal.returns-in-Bottom
-returns-in-Bottom c = rw c.enum_told-in-Bottom-1.given.1 (rw c.option_for-o-in-Bottom.ensures at c.hexagon_counts-in-Bottom.ensures)
+returns-in-Bottom c = rw c.in-Bottom.is (rw c.option_for-o-in-Bottom.ensures at c.hexagon_counts-in-Bottom.ensures)

@@ -14,11 +14,11 @@ use Rattle.column_builder.proofs.laying.put_cap.Goals as goal
 pub returns-in-Absent : goal.returns-in-Absent
 returns-in-Absent c = let a = c.args in
     let ls = lists [] a.corners.now a.numbers.now a.marks.now in
-    sym (ap (λ (x : Choice). lay_each (cap_faces a.t ls x) a.at (four a.vertices.now a.normals.now a.uvs.now a.indices.now)) c.enum_told-1.given.1 ∙ each_none a.at (four a.vertices.now a.normals.now a.uvs.now a.indices.now))
+    sym (ap (λ (x : Choice). lay_each (cap_faces a.t ls x) a.at (four a.vertices.now a.normals.now a.uvs.now a.indices.now)) c.in-Absent.is ∙ each_none a.at (four a.vertices.now a.normals.now a.uvs.now a.indices.now))
 
 pub returns-in-With : goal.returns-in-With
 returns-in-With c = let a = c.args in
     let ls = lists [] a.corners.now a.numbers.now a.marks.now in
     c.put_cap.ensures
     ∙ ap (λ (o : FaceOptions). laid_if_fits (cap_mesh a.t a.corners.now o) a.at (four a.vertices.now a.normals.now a.uvs.now a.indices.now)) c.option_at-o.ensures
-    ∙ sym (ap (λ (x : Choice). lay_each (cap_faces a.t ls x) a.at (four a.vertices.now a.normals.now a.uvs.now a.indices.now)) c.choice-1.given.1 ∙ each-one (cap_mesh a.t a.corners.now (option_at a.numbers.now a.marks.now c.choice-1.given.0.0)) a.at (four a.vertices.now a.normals.now a.uvs.now a.indices.now))
+    ∙ sym (ap (λ (x : Choice). lay_each (cap_faces a.t ls x) a.at (four a.vertices.now a.normals.now a.uvs.now a.indices.now)) c.in-With.is ∙ each-one (cap_mesh a.t a.corners.now (option_at a.numbers.now a.marks.now c.in-With.k)) a.at (four a.vertices.now a.normals.now a.uvs.now a.indices.now))

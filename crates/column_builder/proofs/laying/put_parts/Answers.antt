@@ -12,9 +12,6 @@ use Rattle.column.specs.Wall.{part_at, part_mesh}
 use Rattle.column.proofs.Counts.{each-most, quad-small, wall-size}
 use Rattle.column_builder.proofs.laying.put_parts.Goals as goal
 
-abbrev μ : goal.decreases-loop
-μ w parts vertices₀ normals₀ uvs₀ indices₀ size place₀ p₀ vertices normals uvs indices place p = parts - p
-
 pub loop-p-init : goal.loop-p-init
 loop-p-init c = let a = c.args in
     (omega arith, so-far-none a.at (four a.vertices.now a.normals.now a.uvs.now a.indices.now))

@@ -20,9 +20,6 @@ use Rattle.column.proofs.Numbering.{faces-few}
 use Rattle.column.proofs.Parts.{parts_are}
 use Rattle.column_builder.proofs.laying.put_sides.Goals as goal
 
-abbrev μ : goal.decreases-loop
-μ job pairs numbers marks vertices₀ normals₀ uvs₀ indices₀ sides parts place₀ d₀ vertices normals uvs indices place d = 6 - d
-
 pub loop-d-init : goal.loop-d-init
 loop-d-init c = let a = c.args in
     (omega arith, so-far-none none (four a.vertices.now a.normals.now a.uvs.now a.indices.now))

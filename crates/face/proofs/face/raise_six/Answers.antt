@@ -7,9 +7,6 @@ use Rattle.face.specs.Vec.{off2, upright}
 use Rattle.face.proofs.Filling.{Filled, filled_more, filled-map}
 use Rattle.face.proofs.face.raise_six.Goals as goal
 
-abbrev μ : goal.decreases-loop
-μ y cs out₀ i₀ out i = 6 - i
-
 pub loop-i-init : goal.loop-i-init
 loop-i-init c = (search rules, refl)
 
@@ -18,5 +15,5 @@ loop-i-preserved c = filled_more _ 6 _ _ _ _ c.loop-i.invariant c.loop-i-test.tr
 
 pub returns : goal.returns
 returns c = let a = c.args in
-    let l : length a.t1 ≡ 6 = search rules in
-    filled-map (λ (p : Vec2). upright p a.y) a.t1 off2 6 _ _ _ c.loop-i.invariant c.loop-i-test.false (search rules) l
+    let l : length a.cs ≡ 6 = search rules in
+    filled-map (λ (p : Vec2). upright p a.y) a.cs off2 6 _ _ _ c.loop-i.invariant c.loop-i-test.false (search rules) l

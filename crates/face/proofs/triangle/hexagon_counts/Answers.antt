@@ -3,10 +3,10 @@ use borrow.Author.Rules.{rules}
 use Rattle.face.proofs.triangle.hexagon_counts.Goals as goal
 
 pub returns-in-None : goal.returns-in-None
-returns-in-None c = rw c.enum_told-1.given.1 c.counted.ensures
+returns-in-None c = rw c.in-None.is c.counted.ensures
 
 pub returns-in-Centroid : goal.returns-in-Centroid
-returns-in-Centroid c = rw c.how-1.given.1 c.ring_counts.ensures
+returns-in-Centroid c = rw c.in-Centroid.is c.ring_counts.ensures
 
 pub returns-in-SmallestEdge : goal.returns-in-SmallestEdge
-returns-in-SmallestEdge c = rw c.how-in-SmallestEdge-1.given.1 c.ring_counts-in-SmallestEdge.ensures
+returns-in-SmallestEdge c = rw c.in-SmallestEdge.is c.ring_counts-in-SmallestEdge.ensures

@@ -3,10 +3,10 @@ use borrow.Author.Rules.{rules}
 use Rattle.face.proofs.triangle.hexagon_triangle.Goals as goal
 
 pub returns-in-None : goal.returns-in-None
-returns-in-None c = rw c.enum_told-1.given.1 c.hexagon_from.ensures
+returns-in-None c = rw c.in-None.is c.hexagon_from.ensures
 
 pub returns-in-Centroid : goal.returns-in-Centroid
-returns-in-Centroid c = rw c.how-1.given.1 c.ring_of_hexagon.ensures
+returns-in-Centroid c = rw c.in-Centroid.is c.ring_of_hexagon.ensures
 
 pub returns-in-SmallestEdge : goal.returns-in-SmallestEdge
-returns-in-SmallestEdge c = rw c.how-in-SmallestEdge-1.given.1 c.ring_of_hexagon-in-SmallestEdge.ensures
+returns-in-SmallestEdge c = rw c.in-SmallestEdge.is c.ring_of_hexagon-in-SmallestEdge.ensures

@@ -3,10 +3,10 @@ use borrow.Author.Rules.{rules}
 use Rattle.face.proofs.triangle.quad_triangle.Goals as goal
 
 pub returns-in-None : goal.returns-in-None
-returns-in-None c = rw c.enum_told-1.given.1 c.quad_from.ensures
+returns-in-None c = rw c.in-None.is c.quad_from.ensures
 
 pub returns-in-Centroid : goal.returns-in-Centroid
-returns-in-Centroid c = rw c.how-1.given.1 c.ring_of_quad.ensures
+returns-in-Centroid c = rw c.in-Centroid.is c.ring_of_quad.ensures
 
 pub returns-in-SmallestEdge : goal.returns-in-SmallestEdge
-returns-in-SmallestEdge c = rw c.how-in-SmallestEdge-1.given.1 c.ring_of_quad-in-SmallestEdge.ensures
+returns-in-SmallestEdge c = rw c.in-SmallestEdge.is c.ring_of_quad-in-SmallestEdge.ensures

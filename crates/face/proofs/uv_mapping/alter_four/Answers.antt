@@ -7,9 +7,6 @@ use Rattle.face.specs.Texture.{altered}
 use Rattle.face.proofs.Filling.{Filled, filled_more, filled-map}
 use Rattle.face.proofs.uv_mapping.alter_four.Goals as goal
 
-abbrev μ : goal.decreases-loop
-μ o uvs out₀ i₀ out i = 4 - i
-
 pub loop-i-init : goal.loop-i-init
 loop-i-init c = (search rules, refl)
 
@@ -18,5 +15,5 @@ loop-i-preserved c = filled_more _ 4 _ _ _ _ c.loop-i.invariant c.loop-i-test.tr
 
 pub returns : goal.returns
 returns c = let a = c.args in
-    let l : length a.t2 ≡ 4 = search rules in
-    filled-map (altered a.o) a.t2 off2 4 a.t2 _ _ c.loop-i.invariant c.loop-i-test.false l l
+    let l : length a.uvs ≡ 4 = search rules in
+    filled-map (altered a.o) a.uvs off2 4 a.uvs _ _ c.loop-i.invariant c.loop-i-test.false l l

@@ -9,4 +9,4 @@ pub returns : goal.returns
 returns c = let x = c.wrap_across-a.ensures in
     let y = c.wrap_across-b.ensures in
     let z = c.wrap_across-c.ensures in
-    rw (x.0, x.1, y.0, y.1, z.0, z.1) (each_map wrapped c.args.t1 off2 6 (search rules))
+    rw (x.0, x.1, y.0, y.1, z.0, z.1) (each_map wrapped c.args.cs off2 6 (search rules))

@@ -6,9 +6,6 @@ use Rattle.face.specs.Vec.{plus2, over2, zero2, off2}
 use Rattle.face.proofs.Filling.{Summed, summed-more, middle-done, four}
 use Rattle.face.proofs.vec.centroid2_four.Goals as goal
 
-abbrev μ : goal.decreases-loop
-μ ps t₀ i₀ t i = 4 - i
-
 pub loop-i-init : goal.loop-i-init
 loop-i-init c = (search rules, refl)
 

@@ -4,7 +4,7 @@ use Rattle.heightmap.proofs.Reading.{no_number}
 use Rattle.heightmap.proofs.grid.foot_of.Goals as goal
 
 pub returns-in-SidesOff : goal.returns-in-SidesOff
-returns-in-SidesOff c = rw c.enum_told-1.given.1 no_number
+returns-in-SidesOff c = rw c.in-SidesOff.is no_number
 
 pub returns-in-NothingBeyond : goal.returns-in-NothingBeyond
-returns-in-NothingBeyond c = rw c.enum_told-in-NothingBeyond-1.given.1 no_number
+returns-in-NothingBeyond c = rw c.in-NothingBeyond.is no_number

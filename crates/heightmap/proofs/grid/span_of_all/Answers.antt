@@ -8,9 +8,6 @@ use Rattle.heightmap.specs.Grid.{height_at, lower, higher, kept}
 use Rattle.heightmap.proofs.Reading.{span-done}
 use Rattle.heightmap.proofs.grid.span_of_all.Goals as goal
 
-abbrev decreases-loop : goal.decreases-loop
-decreases-loop cells n min₀ max₀ k₀ min max k = n - k
-
 pub returns-then-n-eq0 : goal.returns-then-n-eq0
 returns-then-n-eq0 c = rw (eq-eqb _ _ c.if-n-eq0.true)
 

@@ -3,4 +3,4 @@ use borrow.Author.Rules.{rules}
 use Rattle.heightmap.proofs.grid.wall_at.Goals as goal
 
 pub returns-in-With : goal.returns-in-With
-returns-in-With c = rw c.enum_told-in-With-1.given.1 c.wall_beside.ensures
+returns-in-With c = rw c.in-With.is c.wall_beside.ensures

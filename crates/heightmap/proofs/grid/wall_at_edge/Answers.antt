@@ -3,4 +3,4 @@ use borrow.Author.Rules.{rules}
 use Rattle.heightmap.proofs.grid.wall_at_edge.Goals as goal
 
 pub returns-in-Listed : goal.returns-in-Listed
-returns-in-Listed c = rw (c.enum_told-in-Listed-1.given.1, c.wall_against.ensures, c.height_at.ensures, c.fringe_at.ensures)
+returns-in-Listed c = rw (c.in-Listed.is, c.wall_against.ensures, c.height_at.ensures, c.fringe_at.ensures)

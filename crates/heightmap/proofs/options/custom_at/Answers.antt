@@ -8,10 +8,10 @@ use Rattle.heightmap.proofs.Reading.{past, same-there}
 use Rattle.heightmap.proofs.options.custom_at.Goals as goal
 
 pub returns-then-customs-k : goal.returns-then-customs-k
-returns-then-customs-k c = let a = c.args in rw c.enum_told-in-Listed-1.given.1 (sym (past a.customs.now 7 a.k (omega arith) 255 a.i c.if-customs-k.true))
+returns-then-customs-k c = let a = c.args in rw c.in-Listed.is (sym (past a.customs.now 7 a.k (omega arith) 255 a.i c.if-customs-k.true))
 
 pub returns-then-at-customs : goal.returns-then-at-customs
-returns-then-at-customs c = let a = c.args in rw c.enum_told-in-Listed-1.given.1 (same-there a.customs.now (7 * a.k + a.i) 0 255 (search rules))
+returns-then-at-customs c = let a = c.args in rw c.in-Listed.is (same-there a.customs.now (7 * a.k + a.i) 0 255 (search rules))
 
 pub returns-else-at-customs : goal.returns-else-at-customs
-returns-else-at-customs c = let a = c.args in rw c.enum_told-in-Listed-1.given.1 (sym (get_or-eq_default a.customs.now 255 {n = 7 * a.k + a.i} (search rules)))
+returns-else-at-customs c = let a = c.args in rw c.in-Listed.is (sym (get_or-eq_default a.customs.now 255 {n = 7 * a.k + a.i} (search rules)))

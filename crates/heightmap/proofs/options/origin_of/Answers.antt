@@ -3,4 +3,4 @@ use borrow.Author.Rules.{rules}
 use Rattle.heightmap.proofs.options.origin_of.Goals as goal
 
 pub returns-in-At : goal.returns-in-At
-returns-in-At c = rw (c.origin-1.given.1, c.raise.ensures)
+returns-in-At c = rw (c.in-At.is, c.raise.ensures)

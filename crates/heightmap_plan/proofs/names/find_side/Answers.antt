@@ -16,9 +16,6 @@ use Rattle.heightmap_plan.proofs.Walking.{Small, side-small, sides-small}
 use Rattle.heightmap_plan.proofs.Finding.{side-found}
 use Rattle.heightmap_plan.proofs.names.find_side.Goals as goal
 
-abbrev decreases-loop : goal.decreases-loop
-decreases-loop job k left cells neighbours fringe customs numbers marks t₀ at₀ d₀ t at d = 6 - d
-
 pub loop-d-init : goal.loop-d-init
 loop-d-init c = let a = c.args in (omega arith, (omega arith, sym (also-none a.from)))
 

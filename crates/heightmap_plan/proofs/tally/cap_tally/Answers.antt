@@ -8,7 +8,7 @@ use Rattle.heightmap_plan.proofs.Walking.{cap-on}
 use Rattle.heightmap_plan.proofs.tally.cap_tally.Goals as goal
 
 pub returns-in-Absent : goal.returns-in-Absent
-returns-in-Absent c = rw c.enum_told-1.given.1 c.nothing.ensures
+returns-in-Absent c = rw c.in-Absent.is c.nothing.ensures
 
 pub returns-in-With : goal.returns-in-With
-returns-in-With c = let a = c.args in rw (c.hexagon_counts.ensures, c.option_of-o.ensures) (sym (cap-on a.job (lists (grid [] [] []) a.customs.now [] a.numbers.now a.marks.now) a.k _ c.enum_told-in-With-1.given.1))
+returns-in-With c = let a = c.args in rw (c.hexagon_counts.ensures, c.option_of-o.ensures) (sym (cap-on a.job (lists (grid [] [] []) a.customs.now [] a.numbers.now a.marks.now) a.k _ c.in-With.is))

@@ -10,9 +10,6 @@ use Rattle.heightmap_plan.specs.Walking.{both, sides_tally}
 use Rattle.heightmap_plan.proofs.Walking.{side-small, sides-small, cap-small, sides-more, cell-whole}
 use Rattle.heightmap_plan.proofs.tally.cell_tally.Goals as goal
 
-abbrev decreases-loop : goal.decreases-loop
-decreases-loop job k cells neighbours fringe customs numbers marks t₀ d₀ t d = 6 - d
-
 pub loop-d-init : goal.loop-d-init
 loop-d-init c = (omega arith, c.nothing-t.ensures)
 

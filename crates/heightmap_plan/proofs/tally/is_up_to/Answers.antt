@@ -3,7 +3,7 @@ use borrow.Author.Rules.{rules}
 use Rattle.heightmap_plan.proofs.tally.is_up_to.Goals as goal
 
 pub returns-in-Face : goal.returns-in-Face
-returns-in-Face c = rw c.goal-1.given.1
+returns-in-Face c = rw c.in-Face.is
 
 pub returns-in-Cell : goal.returns-in-Cell
-returns-in-Cell c = rw c.goal-in-Cell-1.given.1
+returns-in-Cell c = rw c.in-Cell.is

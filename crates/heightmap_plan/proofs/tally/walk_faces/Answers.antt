@@ -11,9 +11,6 @@ use Rattle.heightmap_plan.specs.Walking.{marked, grown, walked}
 use Rattle.heightmap_plan.proofs.Walking.{Small, cell-small, walk-small}
 use Rattle.heightmap_plan.proofs.tally.walk_faces.Goals as goal
 
-abbrev decreases-loop : goal.decreases-loop
-decreases-loop job goal n cells neighbours fringe customs numbers marks w₀ k₀ w k = n - k
-
 pub loop-k-init : goal.loop-k-init
 loop-k-init c = (omega arith, rw (c.nothing-2.ensures, c.nothing.ensures))
 

@@ -9,9 +9,6 @@ use Rattle.heightmap_plan.specs.Walking.{marked_walls, grown_walls, walked_walls
 use Rattle.heightmap_plan.proofs.Walking.{marked-few, walls-few}
 use Rattle.heightmap_plan.proofs.tally.walk_walls.Goals as goal
 
-abbrev decreases-loop : goal.decreases-loop
-decreases-loop caps sides how goal n cells neighbours fringe w₀ k₀ w k = n - k
-
 pub loop-k-init : goal.loop-k-init
 loop-k-init c = (omega arith, refl)
 

@@ -9,9 +9,6 @@ use Rattle.heightmap_plan.specs.Walking.{walls_to}
 use Rattle.heightmap_plan.proofs.Walking.{walls-most}
 use Rattle.heightmap_plan.proofs.tally.walls_beside.Goals as goal
 
-abbrev decreases-loop : goal.decreases-loop
-decreases-loop how cells neighbours fringe k n t₀ d₀ t d = n - d
-
 pub loop-d-init : goal.loop-d-init
 loop-d-init c = (omega arith, refl)
 

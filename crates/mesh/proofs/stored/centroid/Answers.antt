@@ -14,16 +14,16 @@ beside p x = record { answer = p; centroid = x }
 
 pub sum_points-requires : goal.sum_points-requires
 sum_points-requires c = let a = c.args in
-    (kept-centre a.counts (four a.vertices.now a.normals.now a.uvs.now a.indices.now) c.answer-in-Done-1.given.1 c.not_empty-answer.ensures c.answer_of.ensures).room.vertices
+    (kept-centre a.counts (four a.vertices.now a.normals.now a.uvs.now a.indices.now) c.in-Done.is c.not_empty-answer.ensures c.answer_of.ensures).room.vertices
 
 pub mean3-mean-requires : goal.mean3-mean-requires
 mean3-mean-requires c = let a = c.args in
-    (kept-centre a.counts (four a.vertices.now a.normals.now a.uvs.now a.indices.now) c.answer-in-Done-1.given.1 c.not_empty-answer.ensures c.answer_of.ensures).limit
+    (kept-centre a.counts (four a.vertices.now a.normals.now a.uvs.now a.indices.now) c.in-Done.is c.not_empty-answer.ensures c.answer_of.ensures).limit
 
 pub returns-in-Refused : goal.returns-in-Refused
 returns-in-Refused c = let a = c.args in
-    no-centre a.counts (four a.vertices.now a.normals.now a.uvs.now a.indices.now) beside plus3 zero3 over3 (λ j. point_from a.vertices.now (3 * j)) c.answer-1.given.1 c.not_empty-answer.ensures c.answer_of.ensures
+    no-centre a.counts (four a.vertices.now a.normals.now a.uvs.now a.indices.now) beside plus3 zero3 over3 (λ j. point_from a.vertices.now (3 * j)) c.in-Refused.is c.not_empty-answer.ensures c.answer_of.ensures
 
 pub returns-in-Done : goal.returns-in-Done
 returns-in-Done c = let a = c.args in
-    centred a.counts (four a.vertices.now a.normals.now a.uvs.now a.indices.now) beside plus3 zero3 over3 (λ j. point_from a.vertices.now (3 * j)) c.answer-in-Done-1.given.1 c.not_empty-answer.ensures c.answer_of.ensures c.sum_points.ensures c.mean3-mean.ensures
+    centred a.counts (four a.vertices.now a.normals.now a.uvs.now a.indices.now) beside plus3 zero3 over3 (λ j. point_from a.vertices.now (3 * j)) c.in-Done.is c.not_empty-answer.ensures c.answer_of.ensures c.sum_points.ensures c.mean3-mean.ensures

@@ -4,9 +4,6 @@ use Rattle.mesh.specs.Stored.{stretched3}
 use Rattle.mesh.proofs.Moving.{Moving, point_part, points-more}
 use Rattle.mesh.proofs.stored.stretch_points.Goals as goal
 
-abbrev μ : goal.decreases-loop
-μ buffer₀ m by k₀ buffer k = m - k
-
 pub loop-k-init : goal.loop-k-init
 loop-k-init c = (omega arith, refl, sym (laid-nothing _ _))
 

@@ -5,9 +5,6 @@ use mathlib.Core.Path.{◌≡◌}
 use lib.ListN.{length}
 use Rattle.panel_cases.proofs.show.sum_of.Goals as goal
 
-abbrev μ : goal.decreases-loop
-μ text sum₀ k₀ k-end sum k = k-end - k
-
 pub overflow_cast-sum : goal.overflow_cast-sum
 overflow_cast-sum c = omega (arith, c.shared_slice_known-1.given c.loop-k.k)
 

@@ -3,7 +3,7 @@ use borrow.Author.Rules.{rules}
 use Rattle.placement.proofs.options.option_for.Goals as goal
 
 pub returns-in-Absent : goal.returns-in-Absent
-returns-in-Absent c = rw c.enum_told-1.given.1 c.option_at.ensures
+returns-in-Absent c = rw c.in-Absent.is c.option_at.ensures
 
 pub returns-in-With : goal.returns-in-With
-returns-in-With c = rw c.c-1.given.1 c.option_at-in-With.ensures
+returns-in-With c = rw c.in-With.is c.option_at-in-With.ensures

@@ -3,4 +3,4 @@ use borrow.Author.Rules.{rules}
 use Rattle.placement.proofs.placement.choice_in_range.Goals as goal
 
 pub returns-in-With : goal.returns-in-With
-returns-in-With c = rw c.choice-1.given.1 c.in_range3.ensures
+returns-in-With c = rw c.in-With.is c.in_range3.ensures

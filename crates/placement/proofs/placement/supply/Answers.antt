@@ -3,7 +3,7 @@ use borrow.Author.Rules.{rules}
 use Rattle.placement.proofs.placement.supply.Goals as goal
 
 pub returns-in-Absent : goal.returns-in-Absent
-returns-in-Absent c = rw (c.enum_told-1.given.1, c.ones.ensures)
+returns-in-Absent c = rw (c.in-Absent.is, c.ones.ensures)
 
 pub returns-in-With : goal.returns-in-With
-returns-in-With c = rw c.choice-1.given.1
+returns-in-With c = rw c.in-With.is

@@ -3,7 +3,7 @@ use borrow.Author.Rules.{rules}
 use Rattle.placement.proofs.placement.supply_turn.Goals as goal
 
 pub returns-in-Absent : goal.returns-in-Absent
-returns-in-Absent c = rw (c.enum_told-1.given.1, c.ones.ensures, c.ones-in-Absent.ensures, c.ones-in-Absent-2.ensures)
+returns-in-Absent c = rw (c.in-Absent.is, c.ones.ensures, c.ones-in-Absent.ensures, c.ones-in-Absent-2.ensures)
 
 pub returns-in-Rows : goal.returns-in-Rows
-returns-in-Rows c = rw c.turn-1.given.1
+returns-in-Rows c = rw c.in-Rows.is

@@ -3,4 +3,4 @@ use borrow.Author.Rules.{rules}
 use Rattle.placement.proofs.placement.turn_in_range.Goals as goal
 
 pub returns-in-Rows : goal.returns-in-Rows
-returns-in-Rows c = rw c.turn-1.given.1 c.rows_in_range.ensures
+returns-in-Rows c = rw c.in-Rows.is c.rows_in_range.ensures

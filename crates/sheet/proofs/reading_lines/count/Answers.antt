@@ -5,12 +5,12 @@ use Rattle.sheet.proofs.reading_lines.count.Goals as goal
 
 pub returns-in_default : goal.returns-in_default
 unfolding count_of
-returns-in_default c = rw (← (rw c.enum_told-1.given.1 at c.decimal.ensures))
+returns-in_default c = rw (← (rw c.in_default.is at c.decimal.ensures))
 
 pub returns-in_default-mark : goal.returns-in_default-mark
 unfolding count_of
-returns-in_default-mark c = rw (← (rw c.n-1.given.1 at c.decimal.ensures), ← (rw c.enum_told-in_default-mark-1.given.1 at c.mark.ensures))
+returns-in_default-mark c = rw (← (rw c.in-Of.is at c.decimal.ensures), ← (rw c.in_default-mark.is at c.mark.ensures))
 
 pub returns : goal.returns
 unfolding count_of
-returns c = rw (← (rw c.n-1.given.1 at c.decimal.ensures), ← (rw c.b-1.given.1 at c.mark.ensures))
+returns c = rw (← (rw c.in-Of.is at c.decimal.ensures), ← (rw c.in-At.is at c.mark.ensures))

@@ -5,9 +5,6 @@ use Rattle.sheet.proofs.Pieces.{Lines, lines_none, lines-room, lines_more, lines
 use Rattle.sheet.specs.Meshes.{float_word, float_lines}
 use Rattle.sheet.proofs.writing_lines.put_float_lines.Goals as goal
 
-abbrev μ : goal.decreases-loop
-μ out₀ at numbers width n here₀ k₀ out here k = n - k
-
 pub loop-k-init : goal.loop-k-init
 unfolding float_lines
 loop-k-init c = lines_none _ _ _ _

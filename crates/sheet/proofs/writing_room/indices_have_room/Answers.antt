@@ -8,9 +8,6 @@ use Rattle.sheet.specs.Meshes.{index_word}
 use Rattle.sheet.proofs.Rooms.{indices-over, indices-more, indices-within}
 use Rattle.sheet.proofs.writing_room.indices_have_room.Goals as goal
 
-abbrev μ : goal.decreases-loop
-μ indices n room left₀ k₀ left k = n - k
-
 pub loop-k-init : goal.loop-k-init
 loop-k-init c = (omega arith, omega arith)
 
