@@ -8,7 +8,7 @@ use Rattle.answer.specs.declared.answer.Refusal.TheVariants.{Shape}
 use Rattle.answer.specs.Checks.{cell_count}
 use Rattle.buffers.specs.Mesh.{none}
 use Rattle.buffers.specs.Laying.{spread, laid}
-use Rattle.buffers.specs.Lent.{Lent}
+use Rattle.buffers.specs.Lent.{Lent, Shown}
 use Rattle.cells.specs.declared.Cell.{Cell}
 
 -- past the end of the list: a cell of NaNs
@@ -54,7 +54,7 @@ unfoldable pub neighbours_loaded : List Cell → List Float → List ℕ → Lis
 neighbours_loaded cs l m = cond (loadable (length cs) (length l) (length m)) (laid m 0 (flat_neighbours cs)) m
 
 -- a load as a promise has it: what is told of its answer, and what both lists hold when it is left
-abbrev pub Loading : {R : Type 0} → (Answer → R) → Lent Cell → Lent Float → Lent ℕ → R → Type 0
+abbrev pub Loading : {R : Type 0} → (Answer → R) → Shown Cell → Lent Float → Lent ℕ → R → Type 0
 Loading told rs l m r =
     (r ≡ told (load_answer (length rs.entry.now) (length l.entry.now) (length m.entry.now)))
     × (l.exit.now ≡ numbers_loaded rs.entry.now l.entry.now m.entry.now)

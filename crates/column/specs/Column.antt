@@ -18,7 +18,7 @@ use Rattle.placement.specs.declared.placement.Stand.{Stand}
 use Rattle.placement.specs.Options.{entry_count, is_table, option_at, choice_names, option_for}
 use Rattle.placement.specs.Placing.{stand_by, settled, placement_in_range}
 use Rattle.buffers.specs.Mesh.{Mesh, none}
-use Rattle.buffers.specs.Lent.{Lent}
+use Rattle.buffers.specs.Lent.{Shown}
 use Rattle.buffers.specs.Faces.{wall_mesh}
 use Rattle.mesh.specs.Stored.{uv_from}
 use Rattle.mesh.specs.declared.windows.Faces.{Faces}
@@ -43,15 +43,15 @@ abbrev pub lists : List Float → List Float → List Float → List ℕ → Lis
 lists ps cs ns ms = record { pairs = ps; corners = cs; numbers = ns; marks = ms }
 
 -- what the lists hold when a call is entered
-abbrev pub lent : Lent Float → Lent Float → Lent Float → Lent ℕ → Lists
+abbrev pub lent : Shown Float → Shown Float → Shown Float → Shown ℕ → Lists
 lent p c n m = lists p.entry.now c.entry.now n.entry.now m.entry.now
 
 -- the same for a side, which has no use for the cap corners
-abbrev pub lent_for_sides : Lent Float → Lent Float → Lent ℕ → Lists
+abbrev pub lent_for_sides : Shown Float → Shown Float → Shown ℕ → Lists
 lent_for_sides p n m = lists p.entry.now [] n.entry.now m.entry.now
 
 -- and for a cap, which has none for the sides' ends
-abbrev pub lent_for_caps : Lent Float → Lent Float → Lent ℕ → Lists
+abbrev pub lent_for_caps : Shown Float → Shown Float → Shown ℕ → Lists
 lent_for_caps c n m = lists [] c.entry.now n.entry.now m.entry.now
 
 -- ---- B1: the parts of a side, and how high one is

@@ -1,6 +1,6 @@
 // One mesh merged into another.
 ghost use Rattle.std.specs.Prelude.{◌≡◌};
-ghost use Rattle.buffers.specs.Lent.{entering, Become};
+ghost use Rattle.buffers.specs.Lent.{entering, Become, shown};
 ghost use Rattle.merge.specs.Merge.{merged};
 ghost use Rattle.boundary.specs.FromC.{counts_in};
 ghost use Rattle.exports.specs.Merging.{merge_to_c};
@@ -22,8 +22,8 @@ pub extern "C" fn hosirekar_merge(
     uvs: &mut [f32],
     indices: &mut [u16],
 ) -> CAnswer
-    ensures answer { result ≡ merge_to_c source (entering svertices snormals suvs sindices) target (entering vertices normals uvs indices) }
-    ensures buffers { Become (merged (counts_in source) (entering svertices snormals suvs sindices) (counts_in target)) vertices normals uvs indices }
+    ensures answer { result ≡ merge_to_c source (shown svertices snormals suvs sindices) target (entering vertices normals uvs indices) }
+    ensures buffers { Become (merged (counts_in source) (shown svertices snormals suvs sindices) (counts_in target)) vertices normals uvs indices }
 {
     boundary::to_c::answer_to_c(merge::merge(
         boundary::from_c::counts_in(source),

@@ -1,6 +1,6 @@
 // A mesh written as a binary STL file, and such a file read.
 ghost use Rattle.std.specs.Prelude.{◌≡◌, length};
-ghost use Rattle.buffers.specs.Lent.{entering, Become};
+ghost use Rattle.buffers.specs.Lent.{entering, Become, shown};
 ghost use Rattle.stl_writing.specs.Writing.{file_answer, written};
 ghost use Rattle.stl_reading.specs.Reading.{read_answer, read_back};
 ghost use Rattle.boundary.specs.FromC.{counts_in};
@@ -19,8 +19,8 @@ pub extern "C" fn hosirekar_stl_write(
     indices: &[u16],
     bytes: &mut [u8],
 ) -> CFile
-    ensures answer { result ≡ file_to_c (file_answer (counts_in counts) (entering vertices normals uvs indices) (length bytes.old)) }
-    ensures bytes { bytes.new ≡ written (counts_in counts) (entering vertices normals uvs indices) bytes.old }
+    ensures answer { result ≡ file_to_c (file_answer (counts_in counts) (shown vertices normals uvs indices) (length bytes.old)) }
+    ensures bytes { bytes.new ≡ written (counts_in counts) (shown vertices normals uvs indices) bytes.old }
 {
     boundary::to_c::file_to_c(stl_writing::write(
         boundary::from_c::counts_in(counts),

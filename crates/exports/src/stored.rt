@@ -1,6 +1,7 @@
 // What is done to a stored mesh: four lists and two counts.
+ghost use Rattle.buffers.specs.Laying.{four};
 ghost use Rattle.std.specs.Prelude.{◌≡◌};
-ghost use Rattle.buffers.specs.Lent.{entering, Become};
+ghost use Rattle.buffers.specs.Lent.{shown};
 ghost use Rattle.mesh.specs.Stored.{scale_answer, scaled, offset_answer, shifted, texture_scale_answer, texture_scaled, centroid_of, uv_centroid_of};
 ghost use Rattle.boundary.specs.FromC.{counts_in, vec2_of, vec3_of};
 ghost use Rattle.boundary.specs.ToC.{answer_to_c, centroid_to_c, uv_centroid_to_c};
@@ -18,8 +19,8 @@ pub extern "C" fn hosirekar_scale(
     uvs: &[f32],
     indices: &[u16],
 ) -> CAnswer
-    ensures answer { result ≡ answer_to_c (scale_answer (counts_in counts) (vec3_of by) (entering vertices normals uvs indices)) }
-    ensures buffers { Become (scaled (counts_in counts) (vec3_of by)) vertices normals uvs indices }
+    ensures answer { result ≡ answer_to_c (scale_answer (counts_in counts) (vec3_of by) (four vertices.old normals.now uvs.now indices.now)) }
+    ensures buffers { four vertices.new normals.now uvs.now indices.now ≡ scaled (counts_in counts) (vec3_of by) (four vertices.old normals.now uvs.now indices.now) }
 {
     boundary::to_c::answer_to_c(mesh::stored::scale(
         boundary::from_c::counts_in(counts),
@@ -41,8 +42,8 @@ pub extern "C" fn hosirekar_offset(
     uvs: &[f32],
     indices: &[u16],
 ) -> CAnswer
-    ensures answer { result ≡ answer_to_c (offset_answer (counts_in counts) (vec3_of by) (entering vertices normals uvs indices)) }
-    ensures buffers { Become (shifted (counts_in counts) (vec3_of by)) vertices normals uvs indices }
+    ensures answer { result ≡ answer_to_c (offset_answer (counts_in counts) (vec3_of by) (four vertices.old normals.now uvs.now indices.now)) }
+    ensures buffers { four vertices.new normals.now uvs.now indices.now ≡ shifted (counts_in counts) (vec3_of by) (four vertices.old normals.now uvs.now indices.now) }
 {
     boundary::to_c::answer_to_c(mesh::stored::offset(
         boundary::from_c::counts_in(counts),
@@ -64,8 +65,8 @@ pub extern "C" fn hosirekar_texture_scale(
     uvs: &mut [f32],
     indices: &[u16],
 ) -> CAnswer
-    ensures answer { result ≡ answer_to_c (texture_scale_answer (counts_in counts) (vec2_of by) (entering vertices normals uvs indices)) }
-    ensures buffers { Become (texture_scaled (counts_in counts) (vec2_of by)) vertices normals uvs indices }
+    ensures answer { result ≡ answer_to_c (texture_scale_answer (counts_in counts) (vec2_of by) (four vertices.now normals.now uvs.old indices.now)) }
+    ensures buffers { four vertices.now normals.now uvs.new indices.now ≡ texture_scaled (counts_in counts) (vec2_of by) (four vertices.now normals.now uvs.old indices.now) }
 {
     boundary::to_c::answer_to_c(mesh::stored::texture_scale(
         boundary::from_c::counts_in(counts),
@@ -86,7 +87,7 @@ pub extern "C" fn hosirekar_centroid(
     uvs: &[f32],
     indices: &[u16],
 ) -> CCentroid
-    ensures { result ≡ centroid_to_c (centroid_of (counts_in counts) (entering vertices normals uvs indices)) }
+    ensures { result ≡ centroid_to_c (centroid_of (counts_in counts) (shown vertices normals uvs indices)) }
 {
     boundary::to_c::centroid_to_c(mesh::stored::centroid(
         boundary::from_c::counts_in(counts),
@@ -106,7 +107,7 @@ pub extern "C" fn hosirekar_uv_centroid(
     uvs: &[f32],
     indices: &[u16],
 ) -> CUvCentroid
-    ensures { result ≡ uv_centroid_to_c (uv_centroid_of (counts_in counts) (entering vertices normals uvs indices)) }
+    ensures { result ≡ uv_centroid_to_c (uv_centroid_of (counts_in counts) (shown vertices normals uvs indices)) }
 {
     boundary::to_c::uv_centroid_to_c(mesh::stored::uv_centroid(
         boundary::from_c::counts_in(counts),

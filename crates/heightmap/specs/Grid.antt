@@ -7,7 +7,7 @@ use Rattle.face.specs.declared.vec.Vec2.{Vec2}
 use Rattle.face.specs.Vec.{f0}
 use Rattle.placement.specs.declared.options.Choice.{Choice}
 use Rattle.placement.specs.declared.options.Choice.TheVariants as option
-use Rattle.buffers.specs.Lent.{Lent}
+use Rattle.buffers.specs.Lent.{Shown}
 use Rattle.mesh.specs.Stored.{uv_from}
 use Rattle.heightmap.specs.declared.Fringe.{Fringe}
 use Rattle.heightmap.specs.declared.Fringe.TheVariants as fringe
@@ -29,7 +29,7 @@ abbrev pub grid : List Float → List ℕ → List Float → Grid
 grid cs ns fs = record { cells = cs; neighbours = ns; fringe = fs }
 
 -- what those lists hold when a call is entered
-abbrev pub lent_grid : Lent Float → Lent ℕ → Lent Float → Grid
+abbrev pub lent_grid : Shown Float → Shown ℕ → Shown Float → Grid
 lent_grid c n f = grid c.entry.now n.entry.now f.entry.now
 
 -- ---- how the cells are read: NaN past the end of the list

@@ -15,7 +15,7 @@ use Rattle.placement.specs.declared.placement.Stand.{Stand}
 use Rattle.placement.specs.Options.{option_for}
 use Rattle.placement.specs.Placing.{stand_from}
 use Rattle.buffers.specs.Mesh.{Mesh}
-use Rattle.buffers.specs.Lent.{Lent}
+use Rattle.buffers.specs.Lent.{Shown}
 use Rattle.buffers.specs.Faces.{wall_mesh}
 use Rattle.plane_builder.specs.Cap.{cap_mesh}
 use Rattle.heightmap.specs.declared.Customs.{Customs}
@@ -40,15 +40,15 @@ abbrev pub lists : Grid → List ℕ → List Float → List Float → List ℕ 
 lists g us cs ns ms = record { grid = g; customs = us; corners = cs; numbers = ns; marks = ms }
 
 -- what those lists hold when a call is entered
-abbrev pub lent : Lent Float → Lent ℕ → Lent Float → Lent ℕ → Lent Float → Lent Float → Lent ℕ → Lists
+abbrev pub lent : Shown Float → Shown ℕ → Shown Float → Shown ℕ → Shown Float → Shown Float → Shown ℕ → Lists
 lent c n f u p k m = lists (lent_grid c n f) u.entry.now p.entry.now k.entry.now m.entry.now
 
 -- the same for counts, which have no use for the corners
-abbrev pub lent_for_counts : Lent Float → Lent ℕ → Lent Float → Lent ℕ → Lent Float → Lent ℕ → Lists
+abbrev pub lent_for_counts : Shown Float → Shown ℕ → Shown Float → Shown ℕ → Shown Float → Shown ℕ → Lists
 lent_for_counts c n f u k m = lists (lent_grid c n f) u.entry.now [] k.entry.now m.entry.now
 
 -- and for options, which have none for the cells
-abbrev pub lent_for_options : Lent ℕ → Lent Float → Lent ℕ → Lists
+abbrev pub lent_for_options : Shown ℕ → Shown Float → Shown ℕ → Lists
 lent_for_options u k m = lists (grid [] [] []) u.entry.now [] k.entry.now m.entry.now
 
 -- ---- B10: which faces, by name: cells in the order supplied, of each the cap, then sides 0 to 5

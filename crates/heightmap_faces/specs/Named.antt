@@ -1,6 +1,6 @@
 -- What is laid of a face by its cell and side. Definitions only.
 use Rattle.std.specs.Prelude.{ℕ, [], Float}
-use Rattle.buffers.specs.Lent.{Lent}
+use Rattle.buffers.specs.Lent.{Shown}
 use Rattle.heightmap.specs.declared.HeightMap.{HeightMap}
 use Rattle.heightmap.specs.declared.Name.TheVariants.{Cap, Side}
 use Rattle.heightmap.specs.Grid.{grid, height_at, left_at, right_at, span_of, wall, foot_of}
@@ -10,7 +10,7 @@ use Rattle.heightmap_faces.specs.declared.named.SideFace.{SideFace}
 use Rattle.heightmap_faces.specs.Speed.{skin_of, level_of, top_of}
 
 -- the lists that a cap needs, when a call is entered
-abbrev pub lent_for_caps : Lent Float → Lent ℕ → Lent Float → Lent Float → Lent ℕ → Lists
+abbrev pub lent_for_caps : Shown Float → Shown ℕ → Shown Float → Shown Float → Shown ℕ → Lists
 lent_for_caps c u p k m = lists (grid c.entry.now [] []) u.entry.now p.entry.now k.entry.now m.entry.now
 
 abbrev pub cap_of : HeightMap → Lists → ℕ → CapFace

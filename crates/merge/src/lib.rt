@@ -6,7 +6,7 @@ ghost use Rattle.std.specs.Prelude.{◌≡◌, map, ℕ, ◌+◌, ◌*◌, ◌�
 ghost use Rattle.answer.specs.declared.answer.Answer.TheVariants.{Done};
 ghost use Rattle.buffers.specs.Mesh.{also};
 ghost use Rattle.buffers.specs.Laying.{laid};
-ghost use Rattle.buffers.specs.Lent.{lending, entering, Become};
+ghost use Rattle.buffers.specs.Lent.{lending, entering, Become, showing, shown};
 ghost use Rattle.merge.specs.Merge.{merge_answer, merge_tested, appended, merged};
 
 use answer::answer::{Answer, Refusal};
@@ -90,8 +90,8 @@ fn append(
     uvs: &mut [f32],
     indices: &mut [u16],
 )
-    requires { merge_answer source (lending svertices snormals suvs sindices) target (lending vertices normals uvs indices) ≡ Done (also target source) }
-    ensures { Become (appended source (entering svertices snormals suvs sindices) target) vertices normals uvs indices }
+    requires { merge_answer source (showing svertices snormals suvs sindices) target (lending vertices normals uvs indices) ≡ Done (also target source) }
+    ensures { Become (appended source (shown svertices snormals suvs sindices) target) vertices normals uvs indices }
 {
     let b = target.vertices.0;
     let v = source.vertices.0;
@@ -118,8 +118,8 @@ pub fn merge(
     uvs: &mut [f32],
     indices: &mut [u16],
 ) -> Answer
-    ensures answer { result ≡ merge_answer source (entering svertices snormals suvs sindices) target (entering vertices normals uvs indices) }
-    ensures buffers { Become (merged source (entering svertices snormals suvs sindices) target) vertices normals uvs indices }
+    ensures answer { result ≡ merge_answer source (shown svertices snormals suvs sindices) target (entering vertices normals uvs indices) }
+    ensures buffers { Become (merged source (shown svertices snormals suvs sindices) target) vertices normals uvs indices }
 {
     let answer = answer_of(
         source,

@@ -3,8 +3,8 @@
 ghost use Rattle.std.specs.Prelude.{◌≡◌, ◌+◌, ◌*◌, ◌≤◌, length};
 ghost use mathlib.Core.List.{foldl};
 ghost use Rattle.face.specs.Vec.{plus2, plus3, zero2, zero3};
-ghost use Rattle.buffers.specs.Laying.{three, two, laid};
-ghost use Rattle.buffers.specs.Lent.{entering, Become};
+ghost use Rattle.buffers.specs.Laying.{three, two, laid, four};
+ghost use Rattle.buffers.specs.Lent.{shown};
 ghost use Rattle.mesh.specs.Stored.{holds_counts, stored_answer, not_empty, point_from, uv_from, stretched3, stretched2, moved_points, moved_uvs, points_of, uvs_of, scaled, shifted, texture_scaled, scale_answer, offset_answer, texture_scale_answer, mean_of3, mean_of2, centroid_of, uv_centroid_of};
 
 use answer::answer::{Answer, Refusal};
@@ -206,8 +206,8 @@ pub fn scale(
     uvs: &[f32],
     indices: &[u16],
 ) -> Answer
-    ensures answer { result ≡ scale_answer counts by (entering vertices normals uvs indices) }
-    ensures buffers { Become (scaled counts by) vertices normals uvs indices }
+    ensures answer { result ≡ scale_answer counts by (four vertices.old normals.now uvs.now indices.now) }
+    ensures buffers { four vertices.new normals.now uvs.now indices.now ≡ scaled counts by (four vertices.old normals.now uvs.now indices.now) }
 {
     let good = answer::check::in_range3(by);
     let answer = answer_of(
@@ -236,8 +236,8 @@ pub fn offset(
     uvs: &[f32],
     indices: &[u16],
 ) -> Answer
-    ensures answer { result ≡ offset_answer counts by (entering vertices normals uvs indices) }
-    ensures buffers { Become (shifted counts by) vertices normals uvs indices }
+    ensures answer { result ≡ offset_answer counts by (four vertices.old normals.now uvs.now indices.now) }
+    ensures buffers { four vertices.new normals.now uvs.now indices.now ≡ shifted counts by (four vertices.old normals.now uvs.now indices.now) }
 {
     let good = answer::check::in_range3(by);
     let answer = answer_of(
@@ -266,8 +266,8 @@ pub fn texture_scale(
     uvs: &mut [f32],
     indices: &[u16],
 ) -> Answer
-    ensures answer { result ≡ texture_scale_answer counts by (entering vertices normals uvs indices) }
-    ensures buffers { Become (texture_scaled counts by) vertices normals uvs indices }
+    ensures answer { result ≡ texture_scale_answer counts by (four vertices.now normals.now uvs.old indices.now) }
+    ensures buffers { four vertices.now normals.now uvs.new indices.now ≡ texture_scaled counts by (four vertices.now normals.now uvs.old indices.now) }
 {
     let good = answer::check::in_range2(by);
     let answer = answer_of(
@@ -318,7 +318,7 @@ pub fn centroid(
     uvs: &[f32],
     indices: &[u16],
 ) -> CentroidAnswer
-    ensures { result ≡ centroid_of counts (entering vertices normals uvs indices) }
+    ensures { result ≡ centroid_of counts (shown vertices normals uvs indices) }
 {
     let answer = not_empty(answer_of(
         counts,
@@ -356,7 +356,7 @@ pub fn uv_centroid(
     uvs: &[f32],
     indices: &[u16],
 ) -> UvCentroidAnswer
-    ensures { result ≡ uv_centroid_of counts (entering vertices normals uvs indices) }
+    ensures { result ≡ uv_centroid_of counts (shown vertices normals uvs indices) }
 {
     let answer = not_empty(answer_of(
         counts,

@@ -11,7 +11,7 @@ use Rattle.placement.specs.Options.{entry_count, is_table, option_at}
 use Rattle.placement.specs.Placing.{stand_by, settled, placement_in_range}
 use Rattle.buffers.specs.Mesh.{Mesh, none}
 use Rattle.buffers.specs.Laying.{Buffers, laid_if_fits}
-use Rattle.buffers.specs.Lent.{Lent}
+use Rattle.buffers.specs.Lent.{Shown}
 use Rattle.mesh.specs.declared.windows.Faces.{Faces}
 use Rattle.mesh.specs.declared.windows.Window.{Window}
 use Rattle.mesh.specs.Jobs.{planned_of, whole_of, one_of, built_of, faced_of, faces_of, window_of}
@@ -28,7 +28,7 @@ abbrev pub lists : List Float → List Float → List ℕ → Lists
 lists cs ns ms = record { corners = cs; numbers = ns; marks = ms }
 
 -- what those lists hold when a call is entered
-abbrev pub lent : Lent Float → Lent Float → Lent ℕ → Lists
+abbrev pub lent : Shown Float → Shown Float → Shown ℕ → Lists
 lent c n m = lists c.entry.now n.entry.now m.entry.now
 
 -- B7, B18: how it stands: by its placement, at its position

@@ -1,11 +1,11 @@
 -- Words for what is lent to a call, when it begins (`entry`) and when it ends (`exit`). Definitions only.
 use Rattle.std.specs.Prelude.{ℕ, ◌+◌, ◌≤◌, ◌≡◌, List, length, drop}
-use Rattle.std.specs.Borrow.{Bor}
+use Rattle.std.specs.Borrow.{MutBor}
 use Rattle.buffers.specs.Laying.{laid}
-use Rattle.buffers.specs.Lent.{Lent}
+use Rattle.buffers.specs.Lent.{Lent, Shown}
 
 -- ---- reading
-abbrev pub bytes_from : Lent ℕ → ℕ → List ℕ
+abbrev pub bytes_from : Shown ℕ → ℕ → List ℕ
 bytes_from bytes at = drop at bytes.entry.now
 
 -- ---- writing
@@ -17,5 +17,5 @@ pub record Put (old : List ℕ) (at : ℕ) (text new : List ℕ) (end : ℕ) : T
 abbrev pub Puts : Lent ℕ → ℕ → List ℕ → ℕ → Type 0
 Puts out at text end = Put out.entry.now at text out.exit.now end
 
-abbrev pub RoomFor : Bor (List ℕ) → ℕ → List ℕ → Type 0
+abbrev pub RoomFor : MutBor (List ℕ) → ℕ → List ℕ → Type 0
 RoomFor out at text = at + length text ≤ length out.now

@@ -1,6 +1,6 @@
 // A mesh, or a refusal, as the text that is printed of it. The text's length is found before the
 // first byte is written, so a buffer takes the whole text or nothing.
-ghost use Rattle.buffers.specs.Lent.{lending, entering};
+ghost use Rattle.buffers.specs.Lent.{showing, shown};
 ghost use Rattle.sheet.specs.Lent.{Puts};
 ghost use Rattle.sheet.specs.Meshes.{mesh_text, refusal_text, Writable, MeshWritten, TextWritten};
 
@@ -19,7 +19,7 @@ pub(crate) fn write_mesh(
     counts: Counts,
     out: &mut [u8],
 ) -> usize
-    ensures { MeshWritten (entering vertices normals uvs indices) counts out.old out.new result }
+    ensures { MeshWritten (shown vertices normals uvs indices) counts out.old out.new result }
 {
     let v = counts.vertices.0;
     let i = counts.indices.0;
@@ -47,8 +47,8 @@ fn put_mesh(
     indices: &[u16],
     counts: Counts,
 ) -> usize
-    requires { Writable (lending vertices normals uvs indices) counts out.old }
-    ensures { Puts out 0 (mesh_text (entering vertices normals uvs indices) counts) result }
+    requires { Writable (showing vertices normals uvs indices) counts out.old }
+    ensures { Puts out 0 (mesh_text (shown vertices normals uvs indices) counts) result }
 {
     let v = counts.vertices.0;
     let a = writing_lines::put_floats(out, 0, b"vertices ", vertices, 3, v);

@@ -7,7 +7,7 @@ use Rattle.answer.specs.declared.answer.Answer.TheVariants.{Done}
 use Rattle.answer.specs.Answers.{Roomy, given, after, value_of}
 use Rattle.answer.specs.Checks.{every, below}
 use Rattle.buffers.specs.Laying.{Buffers, laid}
-use Rattle.buffers.specs.Lent.{Lent}
+use Rattle.buffers.specs.Lent.{Shown}
 use Rattle.mesh.specs.Stored.{holds_counts, point_from}
 use Rattle.stl.specs.declared.Facet.{Facet}
 use Rattle.stl.specs.File.{facet, file_length, file_bytes}
@@ -27,7 +27,7 @@ facet_from vs ns is k =
     (point_from vs (3 * corner_of is k 2))
 
 -- of lists that are lent, when the call is entered
-abbrev pub facet_in : Lent Float → Lent Float → Lent ℕ → ℕ → Facet
+abbrev pub facet_in : Shown Float → Shown Float → Shown ℕ → ℕ → Facet
 facet_in v n i = facet_from v.entry.now n.entry.now i.entry.now
 
 abbrev pub facet_of : Buffers → ℕ → Facet

@@ -5,7 +5,7 @@
 ghost use Rattle.std.specs.Prelude.{◌≡◌, ◌+◌, ◌*◌, ◌≤◌, ◌<◌, [], ◌∷◌, length};
 ghost use Rattle.face.specs.Lists.{chain};
 ghost use Rattle.buffers.specs.Laying.{laid};
-ghost use Rattle.buffers.specs.Lent.{entering};
+ghost use Rattle.buffers.specs.Lent.{shown};
 ghost use Rattle.mesh.specs.Stored.{point_from};
 ghost use Rattle.stl.specs.File.{file_length, number_bytes, point_bytes, facet_bytes, head_bytes, file_bytes};
 ghost use Rattle.stl_writing.specs.Writing.{facet_in, length_tested, write_tested, file_answer, written, HoldsNamed};
@@ -173,8 +173,8 @@ pub fn write(
     indices: &[u16],
     bytes: &mut [u8],
 ) -> FileAnswer
-    ensures answer { result ≡ file_answer counts (entering vertices normals uvs indices) (length bytes.old) }
-    ensures bytes { bytes.new ≡ written counts (entering vertices normals uvs indices) bytes.old }
+    ensures answer { result ≡ file_answer counts (shown vertices normals uvs indices) (length bytes.old) }
+    ensures bytes { bytes.new ≡ written counts (shown vertices normals uvs indices) bytes.old }
 {
     let answer = tested(
         counts,
