@@ -17,5 +17,5 @@ pub returns-in-Done : goal.returns-in-Done
 returns-in-Done c = let a = c.args in
     let ls = lists a.corners.now a.numbers.now a.marks.now in
     let B = four a.vertices.now a.normals.now a.uvs.now a.indices.now in
-    (rw (c.stand_by-stand.ensures, c.settle.ensures, c.option_at-o.ensures) at c.put_cap.ensures)
-    ∙ after-done a.answer B (laid_if_fits (plane_mesh a.job ls) none B) c.in-Done.is
+    c.put_cap.ensures
+    ∙ rw (c.stand_by-stand.ensures, c.settle.ensures, c.option_at-o.ensures) ?
