@@ -1,2 +1,1 @@
 pub mod Storing
-mod Onward

@@ -9,7 +9,7 @@ loop-d-init c = (omega arith, refl, omega arith)
 pub overflow_add-t : goal.overflow_add-t
 overflow_add-t c = let i = c.loop-d.invariant in
     let f = faces-few c.side_option.result c.parts_of-parts.result in
-    omega (arith, i.0, i.2, f, c.side_faces-t.ensures, c.parts_of-parts.type-inv)
+    omega (arith, i.0, i.2, f, c.side_faces-t.ensures, c.parts_of-parts.type_inv)
 
 pub loop-d-preserved : goal.loop-d-preserved
 loop-d-preserved c = let d = c.loop-d.d in
@@ -19,7 +19,7 @@ loop-d-preserved c = let d = c.loop-d.d in
     let f = faces-few c.side_option.result s in (
       search rules,
       rw (add-one d, walls-more ss s d, ← c.side_option.ensures, ← c.side_faces-t.ensures, i.1),
-      omega (arith, i.2, f, c.side_faces-t.ensures, c.parts_of-parts.type-inv),
+      omega (arith, i.2, f, c.side_faces-t.ensures, c.parts_of-parts.type_inv),
     )
 
 pub overflow_add-result : goal.overflow_add-result

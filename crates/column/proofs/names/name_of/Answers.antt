@@ -10,7 +10,7 @@ loop-d-init c = (omega arith, omega arith)
 
 pub overflow_cast-result : goal.overflow_cast-result
 overflow_cast-result c = let f = faces-few c.side_option.result c.parts_of-parts.result in
-    omega (arith, f, c.side_faces-n.ensures, c.parts_of-parts.type-inv)
+    omega (arith, f, c.side_faces-n.ensures, c.parts_of-parts.type_inv)
 
 pub returns-then-left-n : goal.returns-then-left-n
 returns-then-left-n c = let a = c.args in

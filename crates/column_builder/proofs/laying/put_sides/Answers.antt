@@ -29,10 +29,10 @@ put_parts-place-requires c = let a = c.args in
     let i = c.loop-d.invariant in
     let s : ℕ = parts_of a.job.subdivisions in
     let few = faces-few c.side_option.result c.parts_of-parts.result in
-    let h : s ≤ 4294967295 = rw (← c.parts_of-parts.ensures) (omega (arith, c.parts_of-parts.type-inv)) in
+    let h : s ≤ 4294967295 = rw (← c.parts_of-parts.ensures) (omega (arith, c.parts_of-parts.type_inv)) in
     let e = i.1.0 ∙ none-also _ ∙ sides-sum a.job (lists a.pairs.now [] a.numbers.now a.marks.now) c.loop-d.d in
     let m = sides-most a.numbers.now a.marks.now s a.job.sides h c.loop-d.d in
-    (omega (arith, few, c.side_faces-n.ensures, c.parts_of-parts.type-inv), rw e (omega (arith, m.0, i.0)), rw e (omega (arith, m.1, i.0)))
+    (omega (arith, few, c.side_faces-n.ensures, c.parts_of-parts.type_inv), rw e (omega (arith, m.0, i.0)), rw e (omega (arith, m.1, i.0)))
 
 pub loop-d-preserved : goal.loop-d-preserved
 loop-d-preserved c = let a = c.args in
@@ -70,6 +70,6 @@ returns c = let a = c.args in
     let e : c.loop-d.d ≡ 6 = omega (arith, i.0, c.loop-d-test.false) in
     let f = mesh_of a.job (lists a.pairs.now [] a.numbers.now a.marks.now) in
     let s : ℕ = parts_of a.job.subdivisions in
-    let h : s ≤ 4294967295 = rw (← c.parts_of-parts.ensures) (omega (arith, c.parts_of-parts.type-inv)) in
+    let h : s ≤ 4294967295 = rw (← c.parts_of-parts.ensures) (omega (arith, c.parts_of-parts.type_inv)) in
     let m = sides-most a.numbers.now a.marks.now s a.job.sides h 6 in
     let r = i.1.0 ∙ none-also _ ∙ sides-sum a.job (lists a.pairs.now [] a.numbers.now a.marks.now) c.loop-d.d ∙ ap (sides_counts a.numbers.now a.marks.now s a.job.sides) e in record { place = r; small = (rw r (omega (arith, m.0), omega (arith, m.1))); buffers = i.1.1 ∙ ap (λ (k : ℕ). lay_each (map f (chain (side_names a.job) k)) none (four a.vertices.now a.normals.now a.uvs.now a.indices.now)) e }
