@@ -15,16 +15,16 @@ add-last-requires c = let a = c.args in
     rw c.cap_counts.ensures (omega (arith, s.0, m.0), omega (arith, s.1, m.1))
 
 pub shape_of-vertices : goal.shape_of-vertices
-shape_of-vertices c = c.put_cap-2.auto.1.1.1.1.1.1.0 ∙ c.put_cap.auto.1.1.1.1.1.1.0 ∙ c.put_sides-walls.auto.1.1.1.1.0
+shape_of-vertices c = c.put_cap-2.auto.vertices ∙ c.put_cap.auto.vertices ∙ c.put_sides-walls.auto.vertices
 
 pub shape_of-normals : goal.shape_of-normals
-shape_of-normals c = c.put_cap-2.auto.1.1.1.1.1.1.1.0 ∙ c.put_cap.auto.1.1.1.1.1.1.1.0 ∙ c.put_sides-walls.auto.1.1.1.1.1.0
+shape_of-normals c = c.put_cap-2.auto.normals ∙ c.put_cap.auto.normals ∙ c.put_sides-walls.auto.normals
 
 pub shape_of-uvs : goal.shape_of-uvs
-shape_of-uvs c = c.put_cap-2.auto.1.1.1.1.1.1.1.1.0 ∙ c.put_cap.auto.1.1.1.1.1.1.1.1.0 ∙ c.put_sides-walls.auto.1.1.1.1.1.1.0
+shape_of-uvs c = c.put_cap-2.auto.uvs ∙ c.put_cap.auto.uvs ∙ c.put_sides-walls.auto.uvs
 
 pub shape_of-indices : goal.shape_of-indices
-shape_of-indices c = c.put_cap-2.auto.1.1.1.1.1.1.1.1.1.0 ∙ c.put_cap.auto.1.1.1.1.1.1.1.1.1.0 ∙ c.put_sides-walls.auto.1.1.1.1.1.1.1.0
+shape_of-indices c = c.put_cap-2.auto.indices ∙ c.put_cap.auto.indices ∙ c.put_sides-walls.auto.indices
 
 pub returns : goal.returns
 returns c = let a = c.args in

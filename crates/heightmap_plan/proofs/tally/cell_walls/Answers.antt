@@ -7,7 +7,7 @@ use Rattle.heightmap_plan.proofs.Walking.{no-walls}
 use Rattle.heightmap_plan.proofs.tally.cell_walls.Goals as goal
 
 pub returns-in-Absent : goal.returns-in-Absent
-returns-in-Absent c = let a = c.args in let g = grid a.cells.now a.neighbours.now a.fringe.now in let whole = rw c.in-Absent.is (sym (no-walls a.how g a.k a.n), omega arith) in record { sum = whole.0; small = whole.1 }
+returns-in-Absent c = let a = c.args in let g = grid a.cells.now a.neighbours.now a.fringe.now in record { sum = rw c.in-Absent.is (sym (no-walls a.how g a.k a.n)); small = omega arith }
 
 pub returns-in-With : goal.returns-in-With
-returns-in-With c = let whole = rw c.in-With.is c.walls_beside.ensures in record { sum = whole.0; small = whole.1 }
+returns-in-With c = record { sum = rw c.in-With.is c.walls_beside.ensures.sum; small = c.walls_beside.ensures.small }

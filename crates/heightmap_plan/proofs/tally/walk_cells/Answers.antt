@@ -9,7 +9,7 @@ use Rattle.heightmap_plan.proofs.Walking.{walls-few, own-walk}
 use Rattle.heightmap_plan.proofs.tally.walk_cells.Goals as goal
 
 pub walk_own-requires : goal.walk_own-requires
-walk_own-requires c = let a = c.args in let g = grid a.cells.now a.neighbours.now a.fringe.now in let h = walls-few a.job.caps a.job.sides a.job.fringe g a.goal a.n in let b = c.requires in let whole = rw c.walk_walls-w.ensures ((b, omega arith), (omega arith, omega arith)) in record { n_bound = whole.0; cell_bound = whole.1 }
+walk_own-requires c = let a = c.args in let g = grid a.cells.now a.neighbours.now a.fringe.now in let h = walls-few a.job.caps a.job.sides a.job.fringe g a.goal a.n in let b = c.requires in record { n_bound = rw c.walk_walls-w.ensures (b, omega arith); cell_bound = rw c.walk_walls-w.ensures (omega arith, omega arith) }
 
 pub returns-in-Absent : goal.returns-in-Absent
 returns-in-Absent c = let a = c.args in let ls = lists (grid a.cells.now a.neighbours.now a.fringe.now) a.customs.now [] a.numbers.now a.marks.now in (rw c.walk_walls-w.ensures at c.walk_own.ensures) ∙ own-walk a.job ls c.in-Absent.is a.goal a.n
