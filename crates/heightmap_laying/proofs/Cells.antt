@@ -55,7 +55,7 @@ module _ (cs ns : List Float) (ms : List ℕ) where
       (of-its-own next n m, t ∙ ap (λ (y : KeptTop). y.top) m)
   tops-kept own kept next o n top w k (inr (d, (e, t))) =
       let m = w ∙ ap (top_by cs ns ms) (sym (d ∙ ap (λ (y : KeptTop). y.number) w)) in
-      (rw e k, t ∙ ap (λ (y : KeptTop). y.top) m)
+      (e ∙ k ∙ ap (top_by cs ns ms) (sym (ap (λ (y : KeptTop). y.number) e)), t ∙ ap (λ (y : KeptTop). y.top) m)
 
 module _ (job : HeightMap) (g : Grid) (us : List ℕ) (ps xs : List Float) (ms : List ℕ) (k : ℕ) where
   -- a wall has no use for the cap corners

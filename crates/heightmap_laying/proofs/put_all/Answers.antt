@@ -23,6 +23,7 @@ use Rattle.heightmap_laying.specs.declared.Shared.{Shared}
 use Rattle.heightmap_laying.proofs.Cells.{shared-for, tops-kept, cell-more, all_laid_lem}
 use Rattle.heightmap_laying.proofs.Walls.{option-chosen}
 use Rattle.heightmap_laying.proofs.put_all.Goals as goal
+use Rattle.heightmap_laying.proofs.put_all.Goals.{then-number-own, else-number-own}
 
 pub loop-k-init : goal.loop-k-init
 loop-k-init c = let a = c.args in
@@ -44,13 +45,16 @@ loop-k-preserved c = let a = c.args in
     let L = c.loop-k in
     let ls = lists (grid a.cells.now a.neighbours.now a.fringe.now) a.customs.now a.corners.now a.numbers.now a.marks.now in
     let e = c.put_cell-place.ensures in
-    let came = ⊎_elim (λ w. inl (w.0.taken, (w.3 ∙ w.1.ensures, w.4 ∙ ap (λ (y : KeptTop). y.top) (sym w.3)))) (λ w. inr (w.0.left, (w.1, w.2))) c.if-number-own.branch in
-    let g = tops-kept a.corners.now a.numbers.now a.marks.now _ L.auto c.if-number-own.auto _ _ _ c.top_by-own.ensures L.invariant.1.1.1 came in
+    let g = tops-kept a.corners.now a.numbers.now a.marks.now c.top_by-own.result L.kept c.if-number-own.kept _ c.number_of-number.result c.if-number-own.top c.top_by-own.ensures L.invariant.1.1.1
+    (elim c.if-number-own.branch [
+      | then-number-own w ↦ inl (w.if-number-own.true, (w.kept-is ∙ w.keep_top-kept.ensures, w.top-is ∙ ap (λ (y : KeptTop). y.top) (sym w.kept-is)))
+      | else-number-own w ↦ inr (w.if-number-own.false, (w.kept-is, w.top-is))
+    ]) in
     let t = g.1 ∙ ap (top_of a.corners.now) (option-chosen a.job ls (Cap L.k) _ _ c.choice_of-choice.ensures c.number_of-number.ensures) in (
       omega (arith, c.loop-k-test.true),
       (
-        rw (add-one L.k) (cell-more a.job (grid a.cells.now a.neighbours.now a.fringe.now) a.customs.now a.corners.now a.numbers.now a.marks.now L.k none L.place _ (four a.vertices.now a.normals.now a.uvs.now a.indices.now) (four L.vertices L.normals L.uvs L.indices) _ _ _ L.invariant.1.0 (ap (λ (x : Shared). x.job) c.shared_of-s.ensures) t e.0 e.1.1),
-        ((omega (arith, e.1.0.0, L.invariant.1.1.0.0), omega (arith, e.1.0.1, L.invariant.1.1.0.1)), g.0),
+        rw (add-one L.k) (cell-more a.job (grid a.cells.now a.neighbours.now a.fringe.now) a.customs.now a.corners.now a.numbers.now a.marks.now L.k none L.place _ (four a.vertices.now a.normals.now a.uvs.now a.indices.now) (four L.vertices L.normals L.uvs L.indices) _ _ _ L.invariant.1.0 (ap (λ (x : Shared). x.job) c.shared_of-s.ensures) t e.place e.buffers),
+        ((omega (arith, e.small.0, L.invariant.1.1.0.0), omega (arith, e.small.1, L.invariant.1.1.0.1)), g.0),
       ),
     )
 

@@ -20,7 +20,7 @@ put_cap_if-next-requires c = (omega (arith, c.requires.vertices_bound.0), omega 
 
 pub put_sides-requires : goal.put_sides-requires
 put_sides-requires c = let m = c.put_cap_if-next.ensures.small in
-    let p = c.requires in record { s_value = p.0; vertices_bound = (omega (arith, m.0, p.1.0), omega (arith, m.1, p.1.1)) }
+    let p = c.requires in record { s_value = p.s_value; vertices_bound = (omega (arith, m.0, p.vertices_bound.0), omega (arith, m.1, p.vertices_bound.1)) }
 
 pub returns : goal.returns
 returns c = let a = c.args in
@@ -30,4 +30,4 @@ returns c = let a = c.args in
     let t = c.lift-t.ensures ∙ ap₂ lifted (ap (λ (x : Shared). x.stand) c.requires.s_value) (c.cap_offset.ensures ∙ ap₂ cap_offset c.position_at-at_cell.ensures c.height_at-height.ensures) in
     let e = c.put_cap_if-next.ensures in
     let f = c.put_sides.ensures in
-    let s = so_far_more (top_faces caps (cap_stand a.s.job ls.grid a.k) a.top) (sides_faces a.s.job ls a.k 6) a.at X _ _ _ _ (e.0 ∙ ap (λ (x : Stand). also a.at (measure (top_faces caps x a.top))) t, e.1.1 ∙ ap (λ (x : Stand). lay_each (top_faces caps x a.top) a.at X) t) f.0 f.1.1 in record { place = s.0; small = (omega (arith, e.1.0.0, f.1.0.0), omega (arith, e.1.0.1, f.1.0.1)); buffers = s.1 }
+    let s = so_far_more (top_faces caps (cap_stand a.s.job ls.grid a.k) a.top) (sides_faces a.s.job ls a.k 6) a.at X _ _ _ _ (e.place ∙ ap (λ (x : Stand). also a.at (measure (top_faces caps x a.top))) t, e.buffers ∙ ap (λ (x : Stand). lay_each (top_faces caps x a.top) a.at X) t) f.place f.buffers in record { place = s.0; small = (omega (arith, e.small.0, f.small.0), omega (arith, e.small.1, f.small.1)); buffers = s.1 }
