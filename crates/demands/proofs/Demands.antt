@@ -426,6 +426,7 @@ run-is-steps job B (Other n c ∷ ss) r C s =
 
 named-so : (k : ℕ) (ss : List InRun) → Among k ss → Named k (steps_of ss)
 unfolding Named
+named-so k [] h = elim h [ ]
 named-so k (s ∷ ss) h = ⊎_elim (λ e. inl (ap step_of e)) (λ t. inr (named-so k ss t)) h
 
 pub any-order-of-calls : (job : Job) (B : Buffers) (c : Counts) → whole_answer job B ≡ Done c → (ss : List InRun) → OthersRefused B ss → ((k : ℕ) → k < length (faces job) → Among k ss)

@@ -8,16 +8,16 @@ use Rattle.exports.proofs.Carried.{carried}
 use Rattle.exports.proofs.cheap.hosirekar_cheap_column_build.Goals as goal
 
 pub shape_of-vertices : goal.shape_of-vertices
-shape_of-vertices c = c.build.auto.1.1.0
+shape_of-vertices c = c.build.auto.vertices
 
 pub shape_of-normals : goal.shape_of-normals
-shape_of-normals c = c.build.auto.1.1.1.0
+shape_of-normals c = c.build.auto.normals
 
 pub shape_of-uvs : goal.shape_of-uvs
-shape_of-uvs c = c.build.auto.1.1.1.1.0
+shape_of-uvs c = c.build.auto.uvs
 
 pub shape_of-indices : goal.shape_of-indices
-shape_of-indices c = c.build.auto.1.1.1.1.1.0
+shape_of-indices c = c.build.auto.indices
 
 pub returns : goal.returns
 returns c = let a = c.args in

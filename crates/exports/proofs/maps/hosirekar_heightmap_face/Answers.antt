@@ -12,16 +12,16 @@ use Rattle.exports.proofs.Meant.{meant, unmeant, kept, unkept}
 use Rattle.exports.proofs.maps.hosirekar_heightmap_face.Goals as goal
 
 pub shape_of-vertices-then-is_fringe : goal.shape_of-vertices-then-is_fringe
-shape_of-vertices-then-is_fringe c = c.face.auto.1.1.1.1.1.1.1.1.1.0
+shape_of-vertices-then-is_fringe c = c.face.auto.vertices
 
 pub shape_of-normals-then-is_fringe : goal.shape_of-normals-then-is_fringe
-shape_of-normals-then-is_fringe c = c.face.auto.1.1.1.1.1.1.1.1.1.1.0
+shape_of-normals-then-is_fringe c = c.face.auto.normals
 
 pub shape_of-uvs-then-is_fringe : goal.shape_of-uvs-then-is_fringe
-shape_of-uvs-then-is_fringe c = c.face.auto.1.1.1.1.1.1.1.1.1.1.1.0
+shape_of-uvs-then-is_fringe c = c.face.auto.uvs
 
 pub shape_of-indices-then-is_fringe : goal.shape_of-indices-then-is_fringe
-shape_of-indices-then-is_fringe c = c.face.auto.1.1.1.1.1.1.1.1.1.1.1.1.0
+shape_of-indices-then-is_fringe c = c.face.auto.indices
 
 pub returns-then-is_fringe : goal.returns-then-is_fringe
 returns-then-is_fringe c = let a = c.args in

@@ -10,7 +10,7 @@ use Rattle.exports.proofs.Carried.{carried}
 use Rattle.exports.proofs.stored.hosirekar_scale.Goals as goal
 
 pub shape_of-vertices : goal.shape_of-vertices
-shape_of-vertices c = c.scale.auto.1.1.0
+shape_of-vertices c = c.scale.auto.vertices
 
 pub returns : goal.returns
 returns c = let a = c.args in

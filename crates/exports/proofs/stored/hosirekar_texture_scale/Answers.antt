@@ -10,7 +10,7 @@ use Rattle.exports.proofs.Carried.{carried}
 use Rattle.exports.proofs.stored.hosirekar_texture_scale.Goals as goal
 
 pub shape_of-uvs : goal.shape_of-uvs
-shape_of-uvs c = c.texture_scale.auto.1.1.1.1.0
+shape_of-uvs c = c.texture_scale.auto.uvs
 
 pub returns : goal.returns
 returns c = let a = c.args in

@@ -6,16 +6,16 @@ use Rattle.sheet.proofs.Whole.{has_room, written-mesh, not-whole, no_room}
 use Rattle.sheet.proofs.writing.write_mesh.Goals as goal
 
 pub returns-then-not-is_whole : goal.returns-then-not-is_whole
-returns-then-not-is_whole c = not-whole _ _ _ _ c.is_whole.ensures (not-true _ c.if-not-is_whole.true)
+returns-then-not-is_whole c = not-whole _ _ _ _ c.is_whole.ensures (c.if-not-is_whole.true)
 
 pub has_room-requires : goal.has_room-requires
-has_room-requires c = (whole_is _ _ _ _ _ _ (is-whole _ _ _ _ _ _ _ c.is_whole.ensures (not-false _ c.if-not-is_whole.false))).indices
+has_room-requires c = (whole_is _ _ _ _ _ _ (is-whole _ _ _ _ _ _ _ c.is_whole.ensures (c.if-not-is_whole.false))).indices
 
 pub returns-then-not-has_room : goal.returns-then-not-has_room
-returns-then-not-has_room c = no_room _ _ _ _ _ c.is_whole.ensures (not-false _ c.if-not-is_whole.false) c.has_room.ensures (not-true _ c.if-not-has_room.true)
+returns-then-not-has_room c = no_room _ _ _ _ _ c.is_whole.ensures (c.if-not-is_whole.false) c.has_room.ensures (c.if-not-has_room.true)
 
 pub put_mesh-requires : goal.put_mesh-requires
-put_mesh-requires c = (is-whole _ _ _ _ _ _ _ c.is_whole.ensures (not-false _ c.if-not-is_whole.false), has_room _ _ c.args.out.now _ c.has_room.ensures (not-false _ c.if-not-has_room.false))
+put_mesh-requires c = (is-whole _ _ _ _ _ _ _ c.is_whole.ensures (c.if-not-is_whole.false), has_room _ _ c.args.out.now _ c.has_room.ensures (c.if-not-has_room.false))
 
 pub returns : goal.returns
-returns c = written-mesh _ _ _ _ _ c.is_whole.ensures (not-false _ c.if-not-is_whole.false) c.has_room.ensures (not-false _ c.if-not-has_room.false) _ _ c.put_mesh.ensures
+returns c = written-mesh _ _ _ _ _ c.is_whole.ensures (c.if-not-is_whole.false) c.has_room.ensures (c.if-not-has_room.false) _ _ c.put_mesh.ensures

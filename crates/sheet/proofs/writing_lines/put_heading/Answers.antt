@@ -11,7 +11,7 @@ put_word-a-requires c = let a = c.args in room-first a.out.now _ a.word.now (dec
 
 pub put_decimal-b-requires : goal.put_decimal-b-requires
 put_decimal-b-requires c = let a = c.args in
-    room-first c.put_word-a.new.0 _ (decimal a.n) (10 ∷ []) (room_next _ _ a.word.now (decimal a.n ++ (10 ∷ [])) _ _ c.put_word-a.ensures c.requires)
+    room-first c.put_word-a.new.out _ (decimal a.n) (10 ∷ []) (room_next _ _ a.word.now (decimal a.n ++ (10 ∷ [])) _ _ c.put_word-a.ensures c.requires)
 
 pub put_byte-requires : goal.put_byte-requires
 put_byte-requires c = let a = c.args in
