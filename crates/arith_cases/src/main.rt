@@ -142,10 +142,10 @@ fn all_read(of_root: Tally, of_fused: Tally) -> bool {
     of_fused.reads
 }
 
-fn main() {
+fn main(rt: HostRuntime) {
     let of_root = roots();
     let of_fused = with_triples(grid());
-    if record::ended(all_read(of_root, of_fused)) {
+    if record::ended(all_read(of_root, of_fused), rt.stdin()) {
         report::report(of_root, of_fused);
     } else {
         report::refuse();

@@ -4,6 +4,7 @@ ghost use Rattle.std.specs.Prelude.{◌≡◌, true, ◌≤◌, ◌<◌, ◌^◌
 
 use crate::cell;
 use crate::cell::Read;
+use std::io::{Read as _, Stdin};
 
 // Reads a line of as many patterns as there is room for, and answers whether it was there. No line
 // has more than 50.
@@ -47,12 +48,15 @@ pub(crate) fn count(name: &[u8; 9]) -> u32
 }
 
 // Whether all parts were read and nothing is left. A read that fails is no end.
-pub(crate) fn ended(parts: bool) -> bool
+pub(crate) fn ended(parts: bool, mut input: Stdin) -> bool
     ensures { result ≡ true → parts ≡ true }
 {
     if !parts {
         return false;
     }
     let mut one = [0u8; 1];
-    libc::read(0, &mut one) == 0
+    match input.read(&mut one) {
+        Ok(n) => n == 0,
+        Err(_) => false,
+    }
 }

@@ -1,6 +1,6 @@
 -- What a caller may conclude from the number that it is told. Assumes nothing.
 use mathlib.Core.Path.{◌≡◌, refl}
-use Prim.Native.Nat.{ℕ, ◌≤◌, ◌<◌}
+use Prim.Native.Nat.{◌≤◌, ◌<◌}
 use native.Mathlib.Omega.{arith}
 use Rattle.face.specs.Triangles.{counts}
 use Rattle.answer.specs.declared.answer.Answer.{Answer}

@@ -2,14 +2,14 @@
 use mathlib.Core.Path.{◌≡◌, refl, sym, ap, ap₂, ◌∙◌}
 use mathlib.Core.Bool.{Bool, true, false, cond}
 use mathlib.Core.List.{List, [], ◌∷◌, ◌++◌}
-use Prim.Native.Nat.{ℕ, ◌+◌, ◌*◌, ◌≤◌}
+use Prim.Native.Nat.{◌+◌, ◌*◌, ◌≤◌}
 use native.Mathlib.Omega.{arith}
 use lib.ListN.{length}
 use Rattle.face.specs.declared.triangle.Counts.{Counts}
 use Rattle.buffers.specs.Mesh.{Mesh, none, also, size_of, measure}
 use Rattle.buffers.specs.Laying.{Buffers, fits, reaches, lay, lay_all, lay_one, laid_if_fits, lay_each}
 use Rattle.buffers.specs.Windows.{SameLengths}
-use Rattle.buffers.proofs.Rooms.{Room, room-is, room-so}
+use Rattle.buffers.proofs.Rooms.{room-is, room-so}
 use Rattle.buffers.proofs.Order.{lay-lengths, lengths-same, lengths-then}
 use Rattle.buffers.proofs.Windows.{also-assoc, also-none, none-also}
 use Rattle.buffers.proofs.Faces.{laid_so}

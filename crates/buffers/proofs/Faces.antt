@@ -5,7 +5,6 @@ use mathlib.Core.List.{List, map, map-append}
 use Prim.Native.Nat.{ℕ, zero, suc, ◌+◌, ◌*◌, ◌/◌, ◌≤◌}
 use native.Mathlib.Omega.{arith}
 use lib.ListN.{length, length-map, get_or}
-use lib.Ieee.{Float}
 use Rattle.face.specs.declared.vec.Vec2.{Vec2}
 use Rattle.face.specs.declared.vec.Vec3.{Vec3}
 use Rattle.face.specs.declared.face.Quad.{Quad}
@@ -24,7 +23,7 @@ use Rattle.face.proofs.Laws.{index-count}
 use Rattle.placement.specs.declared.placement.Stand.{Stand}
 use Rattle.placement.specs.Placing.{stood, stood_normal}
 use Rattle.buffers.specs.Mesh.{Vertex, Mesh, also, size_of}
-use Rattle.buffers.specs.Laying.{Buffers, four, three, two, corners, spread, laid, lay, fits, laid_if_fits}
+use Rattle.buffers.specs.Laying.{Buffers, four, three, two, corners, laid, lay, fits, laid_if_fits}
 use Rattle.buffers.specs.Faces.{vertex_at, face_of, quad_mesh, hexagon_mesh, stood_vertex, standing, wall_mesh}
 use Rattle.buffers.proofs.Laid.{spread-each, spread-all}
 use Rattle.buffers.proofs.Order.{same-four}

@@ -2,7 +2,7 @@
 use mathlib.Core.Path.{◌≡◌, refl, sym, ap, ap₂, subst, ◌∙◌}
 use mathlib.Core.List.{List, [], ◌∷◌, ◌++◌, map}
 use Prim.Native.Nat.{ℕ, zero, suc, ◌+◌, ◌-◌, ◌*◌, ◌<◌, ◌≤◌, suc-le-suc}
-use native.Mathlib.Nat.{zero-add, add-zero, add_assoc, suc-add}
+use native.Mathlib.Nat.{zero-add, add-zero, add_assoc}
 use native.Mathlib.Omega.{arith}
 use lib.ListN.{length, get_or, take, length-append, length-map, get_or-append}
 use lib.Seq.{get_or-append-add}
@@ -19,8 +19,8 @@ use Rattle.face.proofs.Laws.{Below, quad-indices-below, hexagon-indices-below}
 use Rattle.buffers.specs.Mesh.{Vertex, Mesh, none, also, size_of, measure, start_of, triangles_from, vertices_of, joined}
 use Rattle.buffers.specs.Laying.{Buffers, four, three, two, corners, spread, laid, lay, lay_all}
 use Rattle.placement.specs.declared.placement.Stand.{Stand}
-use Rattle.buffers.specs.Faces.{vertex_at, face_of, quad_mesh, hexagon_mesh, stood_vertex, standing, wall_mesh}
-use Rattle.buffers.specs.Windows.{face_at, Between, Within, AlikeOutside, Holds, Corners, Own, AllOwn, OfFace, InFace}
+use Rattle.buffers.specs.Faces.{vertex_at, quad_mesh, hexagon_mesh, stood_vertex, standing, wall_mesh}
+use Rattle.buffers.specs.Windows.{face_at, Between, AlikeOutside, Holds, Corners, Own, AllOwn, OfFace, InFace}
 use Rattle.buffers.proofs.Laid.{laid-append, laid-nothing, spread-append, spread_at}
 use Rattle.buffers.proofs.Order.{same-four, position-numbers, normal-numbers, uv-numbers, index-numbers}
 use Rattle.buffers.proofs.Windows.{total, covered, next_start, also-assoc, also-none, none-also, lay-outside, lay-inside}

@@ -17,7 +17,6 @@ use Rattle.buffers.specs.Laying.{Buffers, fits, lay_one, laid_if_fits}
 use Rattle.buffers.specs.Windows.{face_at}
 use Rattle.buffers.proofs.Joined.{measure-append}
 use Rattle.buffers.proofs.Windows.{also-assoc, also-none, none-also}
-use Rattle.buffers.proofs.Faces.{map_each}
 use Rattle.buffers.proofs.Each.{one-laid}
 
 -- ---- a name stands at a number of a list

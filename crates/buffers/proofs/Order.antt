@@ -1,17 +1,15 @@
 -- Faces laid one by one, in any order: nothing here speaks of floats, and no law asks for room. Assumes nothing.
 use mathlib.Core.Path.{◌≡◌, refl, sym, ap, ◌∙◌}
-use mathlib.Core.Logic.{◌⊎◌, inl, inr, ⊎_elim}
-use mathlib.Core.List.{List, [], ◌∷◌, ◌++◌}
-use Prim.Native.Nat.{ℕ, zero, suc, ◌+◌, ◌*◌, ◌<◌, ◌≤◌, suc-le-suc}
+use mathlib.Core.Logic.{⊎_elim}
+use mathlib.Core.List.{List, [], ◌∷◌}
+use Prim.Native.Nat.{ℕ, zero, suc, ◌*◌, ◌<◌, ◌≤◌, suc-le-suc}
 use native.Mathlib.Nat.{zero-lt-suc}
 use native.Mathlib.Omega.{arith}
 use lib.ListN.{length}
 use lib.Ieee.{Float}
-use Rattle.face.specs.Triangles.{counts}
-use Rattle.face.specs.declared.triangle.Triangle.{Triangle}
 use Rattle.face.specs.declared.triangle.Counts.{Counts}
 use Rattle.buffers.specs.Mesh.{Vertex, Mesh, none, also, size_of}
-use Rattle.buffers.specs.Laying.{Buffers, four, three, two, corners, spread, laid, lay, lay_all, lay_one}
+use Rattle.buffers.specs.Laying.{Buffers, four, three, two, corners, spread, lay, lay_all, lay_one}
 use Rattle.buffers.specs.Steps.{Step, Lays, Refuses, stepped, run, Named}
 use Rattle.buffers.specs.Windows.{SameLengths}
 use Rattle.buffers.proofs.Laid.{length-laid, laid-comm, laid-twice, spread-length}

@@ -4,16 +4,13 @@ use mathlib.Core.Bool.{Bool, true, false, cond}
 use mathlib.Core.List.{List, ◌++◌}
 use Prim.Native.Nat.{ℕ, zero, suc, ◌+◌, ◌*◌, ◌≤◌, ◌<◌}
 use native.Mathlib.Omega.{arith}
-use borrow.Author.Tests.{eqb-true}
 use lib.Dec.{eqb}
 use lib.ListN.{length, get_or}
-use lib.Ieee.{Float}
 use Rattle.face.specs.declared.vec.Vec3.{Vec3}
 use Rattle.face.specs.declared.face.Quad.{Quad}
 use Rattle.face.specs.declared.inset.Inset.{Inset}
 use Rattle.face.specs.declared.inset.Inset.TheVariants.{None, Centroid, SmallestEdge}
 use Rattle.face.specs.declared.inset.InsetHexagon.{InsetHexagon}
-use Rattle.face.specs.declared.triangle.Triangle.{Triangle}
 use Rattle.face.specs.declared.triangle.Counts.{Counts}
 use Rattle.face.specs.Lists.{each, chain}
 use Rattle.face.specs.Vec.{off2, off3}
@@ -28,7 +25,7 @@ use Rattle.buffers.specs.declared.plain.Plain.{Plain}
 use Rattle.buffers.specs.Mesh.{also, size_of}
 use Rattle.buffers.specs.Laying.{Buffers, four, three, two, corners, laid, lay, fits}
 use Rattle.buffers.specs.Faces.{vertex_at, quad_mesh, hexagon_mesh, standing, wall_mesh}
-use Rattle.buffers.specs.Plain.{points_by, plain_of, shifted_quad, stood_quad, stood_hexagon, plain_triangles, Plainly, plain_mesh}
+use Rattle.buffers.specs.Plain.{points_by, shifted_quad, stood_quad, stood_hexagon, plain_triangles, Plainly, plain_mesh}
 use Rattle.buffers.proofs.Faces.{vertices-laid, face-size}
 use Rattle.buffers.proofs.Rooms.{room-is}
 

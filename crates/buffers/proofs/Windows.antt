@@ -1,20 +1,19 @@
 -- The windows of a list of faces: they lie end to end, cover the sums, and a face writes in its own alone. Assumes nothing.
 use mathlib.Core.Path.{◌≡◌, refl, sym, ap, ap₂, subst, ◌∙◌}
-use mathlib.Core.Logic.{◌⊎◌, inl, inr, ⊎_elim}
+use mathlib.Core.Logic.{inl, inr, ⊎_elim}
 use mathlib.Core.Bool.{Bool, true, false, not}
-use mathlib.Core.List.{List, [], ◌∷◌, ◌++◌, map}
+use mathlib.Core.List.{List, [], ◌∷◌}
 use Prim.Native.Nat.{ℕ, zero, suc, ◌+◌, ◌-◌, ◌*◌, ◌<◌, ◌≤◌, suc-le-suc}
 use native.Mathlib.Nat.{zero-add, add-zero, add_assoc}
 use native.Mathlib.Omega.{arith}
 use lib.Dec.{T, ltb, ltb→lt, nltb→le}
-use lib.ListN.{length, get_or, take}
+use lib.ListN.{length, take}
 use lib.Seq.{take_all}
-use lib.Ieee.{Float}
 use Rattle.face.specs.Triangles.{counts}
 use Rattle.face.specs.declared.triangle.Counts.{Counts}
 use Rattle.buffers.specs.Mesh.{Mesh, none, also, size_of, measure, start_of}
 use Rattle.buffers.specs.Laying.{Buffers, lay, lay_one}
-use Rattle.buffers.specs.Windows.{no_face, face_at, Between, Beside, AlikeOutside, Holds, Within}
+use Rattle.buffers.specs.Windows.{face_at, AlikeOutside, Holds, Within}
 use Rattle.buffers.proofs.Laid.{length-laid, laid-outside, laid-inside}
 use Rattle.buffers.proofs.Order.{position-numbers, normal-numbers, uv-numbers, index-numbers}
 

@@ -1,5 +1,5 @@
 -- A height map's cells as a list of records, and the two flat lists that stand for it; B11, B12 and O9 are rows of docs/TRACE.md. Definitions only.
-use Rattle.std.specs.Prelude.{ℕ, ◌*◌, ◌≡◌, Bool, ◌&&◌, cond, List, [], ◌∷◌, length, get_or, replicate, leb, Float}
+use Rattle.std.specs.Prelude.{ℕ, ◌*◌, ◌≡◌, Bool, ◌&&◌, cond, List, ◌∷◌, length, get_or, replicate, leb, Float}
 use Rattle.std.specs.Float.{nan}
 use Rattle.face.specs.Lists.{each, chain}
 use Rattle.answer.specs.declared.answer.Answer.{Answer}

@@ -17,7 +17,7 @@ use Rattle.placement.specs.declared.placement.Choice3.TheVariants as choice
 use Rattle.placement.specs.declared.placement.Stand.{Stand}
 use Rattle.placement.specs.Options.{entry_count, is_table, option_at, choice_names, option_for}
 use Rattle.placement.specs.Placing.{stand_by, settled, placement_in_range}
-use Rattle.buffers.specs.Mesh.{Mesh, none}
+use Rattle.buffers.specs.Mesh.{Mesh}
 use Rattle.buffers.specs.Lent.{Shown}
 use Rattle.buffers.specs.Faces.{wall_mesh}
 use Rattle.mesh.specs.Stored.{uv_from}

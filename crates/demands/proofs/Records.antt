@@ -4,34 +4,31 @@ use mathlib.Core.Path.{◌≡◌, refl, sym, ap, ap₂, subst, ◌∙◌}
 use mathlib.Core.Logic.{inr}
 use mathlib.Core.Bool.{Bool, true, false, cond, ◌&&◌}
 use mathlib.Core.List.{List, [], ◌∷◌, ◌++◌, head-eq_of_cons-eq, tail-eq_of_cons-eq}
-use Prim.Native.Nat.{ℕ, zero, suc, ◌+◌, ◌*◌, ◌/◌, ◌≤◌, ◌<◌}
+use Prim.Native.Nat.{ℕ, suc, ◌+◌, ◌*◌, ◌≤◌, ◌<◌}
 use native.Mathlib.Omega.{arith}
 use borrow.Author.Tests.{leb-true}
-use lib.ListN.{length, get_or, set, take, drop, length-append}
+use lib.ListN.{length, get_or, take, drop, length-append}
 use lib.Seq.{set_at, take_at, drop_at, append_snoc, get_or-append-add}
 use lib.Dec.{leb}
 use lib.Ieee.{Float, nan}
 use Rattle.face.specs.declared.triangle.Counts.{Counts}
-use Rattle.face.specs.declared.vec.Vec2.{Vec2}
 use Rattle.face.specs.Vec.{v2}
-use Rattle.face.specs.Lists.{each}
 use Rattle.face.proofs.Filling.{each_at, each_all}
 use Rattle.answer.specs.declared.answer.Refusal.{Refusal}
 use Rattle.answer.specs.declared.answer.Refusal.TheVariants.{Shape}
 use Rattle.answer.specs.declared.answer.Answer.{Answer}
 use Rattle.answer.specs.declared.answer.Answer.TheVariants.{Done, Refused}
-use Rattle.answer.specs.Answers.{number_of}
 use Rattle.answer.specs.Checks.{cell_count}
 use Rattle.buffers.specs.Mesh.{none}
-use Rattle.buffers.specs.Laying.{spread, laid}
+use Rattle.buffers.specs.Laying.{laid}
 use Rattle.buffers.proofs.Laid.{spread-length, spread_at, laid-outside}
 use Rattle.heightmap.specs.declared.HeightMap.{HeightMap}
 use Rattle.heightmap.specs.HeightMap.{lists}
 use Rattle.heightmap.specs.Grid.{grid, cells_in, height_at, position_at, left_at, right_at, nobody, neighbour_at}
 use Rattle.cells.specs.declared.Cell.{Cell}
-use Rattle.cells.specs.Cells.{no_cell, cell_at, ends_of, words_of, numbers_of, neighbours_of, flat_numbers, flat_neighbours, loadable, load_answer, numbers_loaded, neighbours_loaded}
+use Rattle.cells.specs.Cells.{no_cell, cell_at, ends_of, numbers_of, neighbours_of, flat_numbers, flat_neighbours, loadable, load_answer, numbers_loaded, neighbours_loaded}
 use Rattle.cells.proofs.Storing.{numbers-27, neighbours-6}
-use Rattle.demands.specs.Job.{Job, OfMap}
+use Rattle.demands.specs.Job.{OfMap}
 use Rattle.demands.specs.Records.{of_records, of_parts, Whole, AllWhole}
 
 -- ---- a list laid from the start of a longer one

@@ -1,7 +1,7 @@
 -- A map's counts by its names are the sums over its faces, cell by cell. Assumes nothing.
 use mathlib.Core.Path.{◌≡◌, refl, ap₂, ◌∙◌}
 use mathlib.Core.Bool.{Bool, true, false, cond}
-use mathlib.Core.List.{List, [], ◌∷◌, map}
+use mathlib.Core.List.{[], ◌∷◌, map}
 use Prim.Native.Nat.{ℕ}
 use Rattle.face.specs.Lists.{chain}
 use Rattle.face.specs.Face.{altered_quad}

@@ -1,35 +1,28 @@
 -- The face of a number, laid at its place. Assumes nothing.
-use mathlib.Core.Path.{◌≡◌, refl, sym, ap, ap₂, subst, ◌∙◌}
-use mathlib.Core.Bool.{Bool, true, cond}
-use mathlib.Core.List.{List, [], ◌∷◌, map}
-use Prim.Native.Nat.{ℕ, zero, suc, ◌<◌}
+use mathlib.Core.Path.{◌≡◌, ap, ap₂, ◌∙◌}
+use mathlib.Core.List.{List, []}
+use Prim.Native.Nat.{ℕ, ◌<◌}
 use native.Mathlib.Omega.{arith}
 use lib.Ieee.{Float}
 use lib.ListN.{length, length-map}
 use Rattle.face.specs.declared.triangle.Counts.{Counts}
-use Rattle.answer.specs.declared.answer.Answer.{Answer}
-use Rattle.answer.specs.declared.answer.Answer.TheVariants.{Done, Refused}
+use Rattle.answer.specs.declared.answer.Answer.TheVariants.{Done}
 use Rattle.answer.specs.Answers.{named}
-use Rattle.answer.specs.Checks.{cell_count}
 use Rattle.answer.proofs.Laws.{named-done, roomed-done}
-use Rattle.buffers.specs.Mesh.{Mesh, none, also, size_of, start_of}
+use Rattle.buffers.specs.Mesh.{none}
 use Rattle.buffers.specs.Laying.{Buffers, lay_one, laid_if_fits}
 use Rattle.buffers.proofs.Named.{stands_at, stands-laid}
 use Rattle.mesh.proofs.Jobs.{face-room}
 use Rattle.heightmap.specs.declared.Name.{Name}
-use Rattle.heightmap.specs.declared.Name.TheVariants.{Cap, Side}
+use Rattle.heightmap.specs.declared.Name.TheVariants.{Cap}
 use Rattle.heightmap.specs.declared.HeightMap.{HeightMap}
-use Rattle.heightmap.specs.Grid.{Grid, cells_in}
+use Rattle.heightmap.specs.Grid.{Grid}
 use Rattle.heightmap.specs.HeightMap.{Lists, lists, map_names, mesh_of, map_faces}
-use Rattle.heightmap.specs.Counts.{size_by}
 use Rattle.heightmap.specs.Tests.{checked, planned}
-use Rattle.heightmap.specs.Names.{name_at, start_by}
+use Rattle.heightmap.specs.Names.{name_at}
 use Rattle.heightmap.specs.Calls.{face_answer}
-use Rattle.heightmap.proofs.Counts.{size-of}
 use Rattle.heightmap_plan.specs.declared.names.Found.{Found}
-use Rattle.heightmap_plan.specs.declared.tally.Tally.{Tally}
-use Rattle.heightmap_plan.specs.Walking.{tally_by, tally_of}
-use Rattle.heightmap_plan.specs.Finding.{found_by, found_at}
+use Rattle.heightmap_plan.specs.Finding.{found_at}
 use Rattle.heightmap.proofs.Faces.{passes}
 use Rattle.heightmap_plan.proofs.Telling.{planned-few, found-so, start-so}
 

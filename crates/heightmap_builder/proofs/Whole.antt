@@ -1,19 +1,17 @@
 -- What a done answer says of the cells and of the room. Assumes nothing.
-use mathlib.Core.Path.{◌≡◌, refl, ap, ◌∙◌}
-use mathlib.Core.Bool.{Bool, true, false, ◌&&◌, cond}
+use mathlib.Core.Path.{◌≡◌, ap, ◌∙◌}
+use mathlib.Core.Bool.{Bool, true, cond}
 use Rattle.face.specs.declared.triangle.Counts.{Counts}
 use Rattle.answer.specs.declared.answer.Refusal.TheVariants.{Shape}
 use Rattle.answer.specs.declared.answer.Answer.TheVariants.{Done}
-use Rattle.answer.specs.Checks.{cell_count}
 use Rattle.answer.proofs.Laws.{given-done, roomed-done}
 use Rattle.mesh.proofs.Jobs.{whole_room}
 use Rattle.buffers.specs.Mesh.{none, measure}
 use Rattle.buffers.specs.Laying.{Buffers, fits, lay_all, lay_each}
 use Rattle.buffers.proofs.Each.{each_all}
 use Rattle.heightmap.specs.declared.HeightMap.{HeightMap}
-use Rattle.heightmap.specs.Grid.{cells_in}
 use Rattle.heightmap.specs.HeightMap.{Lists, map_faces}
-use Rattle.heightmap.specs.Tests.{grid_shape, shape_of, checked, planned}
+use Rattle.heightmap.specs.Tests.{shape_of, checked, planned}
 use Rattle.heightmap.specs.Calls.{whole_answer}
 use Rattle.heightmap.proofs.Faces.{passes}
 use Rattle.heightmap_plan.proofs.Deciding.{few-cells}

@@ -1,7 +1,7 @@
 -- One step of laying a map: a face, or none, and how far the place goes. Assumes nothing.
-use mathlib.Core.Path.{◌≡◌, refl, sym, ap, ◌∙◌}
+use mathlib.Core.Path.{◌≡◌, sym, ap, ◌∙◌}
 use mathlib.Core.List.{List, [], ◌∷◌}
-use Prim.Native.Nat.{ℕ, ◌+◌, ◌≤◌}
+use Prim.Native.Nat.{◌≤◌}
 use native.Mathlib.Omega.{arith}
 use lib.Ieee.{Float}
 use Rattle.face.specs.declared.vec.Vec2.{Vec2}
@@ -10,7 +10,7 @@ use Rattle.face.specs.declared.triangle.Counts.{Counts}
 use Rattle.face.specs.Inset.{inset_quad_of}
 use Rattle.face.specs.Triangles.{inset_counts, quad_triangles, hexagon_triangles}
 use Rattle.placement.specs.declared.placement.Stand.{Stand}
-use Rattle.buffers.specs.Mesh.{Mesh, also, size_of, measure}
+use Rattle.buffers.specs.Mesh.{Mesh, also, size_of}
 use Rattle.buffers.specs.Laying.{Buffers, laid_if_fits}
 use Rattle.buffers.specs.Faces.{quad_mesh, hexagon_mesh}
 use Rattle.buffers.proofs.Faces.{counted, quad-size, hexagon-size, standing-size}

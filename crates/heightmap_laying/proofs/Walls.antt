@@ -2,7 +2,7 @@
 use mathlib.Core.Path.{◌≡◌, refl, sym, ap, ap₂, ◌∙◌}
 use mathlib.Core.Bool.{Bool, true, false, cond}
 use mathlib.Core.List.{List, [], ◌∷◌, map, map-append}
-use Prim.Native.Nat.{ℕ, zero, suc}
+use Prim.Native.Nat.{ℕ, suc}
 use lib.Ieee.{Float}
 use Rattle.face.specs.declared.vec.Vec2.{Vec2}
 use Rattle.face.specs.declared.triangle.Counts.{Counts}
@@ -19,8 +19,8 @@ use Rattle.heightmap.specs.declared.Wall.{Wall}
 use Rattle.heightmap.specs.declared.Name.{Name}
 use Rattle.heightmap.specs.declared.Name.TheVariants.{Side}
 use Rattle.heightmap.specs.declared.HeightMap.{HeightMap}
-use Rattle.heightmap.specs.Grid.{Grid, height_at, left_at, right_at, span_of, wall, present, foot_of}
-use Rattle.heightmap.specs.HeightMap.{Lists, lists, side_names, custom_at, custom_place, own_choice, chosen, option_of, side_stand, mesh_of}
+use Rattle.heightmap.specs.Grid.{height_at, left_at, right_at, span_of, wall, present, foot_of}
+use Rattle.heightmap.specs.HeightMap.{Lists, side_names, custom_at, custom_place, own_choice, chosen, option_of, side_stand, mesh_of}
 use Rattle.heightmap_faces.specs.declared.Level.{Level}
 use Rattle.heightmap_faces.specs.declared.kept.KeptLevel.{KeptLevel}
 use Rattle.heightmap_faces.specs.Speed.{skin_of, level_of}

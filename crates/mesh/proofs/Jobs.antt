@@ -1,21 +1,21 @@
 -- Plan, whole build and single-face calls agree, for a job of any kind. Assumes nothing.
-use Rattle.std.proofs.Common.{◌≡◌, ℕ, suc, ◌+◌, ◌*◌, ◌<◌, ◌≤◌, Bool, true, false, not, T, ltb, List, [], ◌∷◌, length, sym, refl, ap, ◌∙◌, subst, ltb→lt, nltb→le, le-ltb, lt-ltb}
+use Rattle.std.proofs.Common.{◌≡◌, ℕ, suc, ◌<◌, ◌≤◌, Bool, true, false, not, T, ltb, List, [], ◌∷◌, length, sym, refl, ap, ◌∙◌, ltb→lt, nltb→le, le-ltb, lt-ltb}
 use Rattle.face.specs.declared.triangle.Counts.{Counts}
 use Rattle.answer.specs.declared.answer.Refusal.{Refusal}
 use Rattle.answer.specs.declared.answer.Refusal.TheVariants.{NoFace, Room}
 use Rattle.answer.specs.declared.answer.Buffer.{Buffer}
 use Rattle.answer.specs.declared.answer.Answer.{Answer}
 use Rattle.answer.specs.declared.answer.Answer.TheVariants.{Done, Refused}
-use Rattle.answer.specs.Answers.{given, limited, named, roomed, room_for, after, need_for, FirstShort, Lengthened, Past}
+use Rattle.answer.specs.Answers.{given, limited, named, after, need_for, FirstShort, Lengthened, Past}
 use Rattle.answer.proofs.Laws.{done-limited, named-done, roomed-done, room-enough, first_short, past, after-done, after-refused}
 use Rattle.buffers.specs.Mesh.{Mesh, none, measure, start_of}
 use Rattle.buffers.specs.Laying.{Buffers, fits, reaches, lay_all, lay_one}
-use Rattle.buffers.specs.Steps.{Step, Lays, Refuses, stepped, run, Named}
+use Rattle.buffers.specs.Steps.{Step, Lays, Refuses, run, Named}
 use Rattle.buffers.specs.Windows.{AlikeOutside, SameLengths}
-use Rattle.buffers.proofs.Order.{any_order, one-lengths, lengths-same, lengths-then}
+use Rattle.buffers.proofs.Order.{any_order, one-lengths}
 use Rattle.buffers.proofs.Rooms.{room-so}
 use Rattle.buffers.proofs.Windows.{none-also, one_outside, one-past-end}
-use Rattle.mesh.specs.Jobs.{RoomIn, length_in, planned_of, roomed_in, whole_of, one_of, built_of, faced_of, called, calls}
+use Rattle.mesh.specs.Jobs.{RoomIn, length_in, planned_of, roomed_in, whole_of, one_of, built_of, faced_of, calls}
 
 -- ---- X4: with the planned room, the whole build answers what the plan does
 pub plan-and-build : (checked : Answer → Answer) (fs : List Mesh) (B : Buffers) → ((c : Counts) → planned_of checked fs ≡ Done c → RoomIn c B) → whole_of checked fs B ≡ planned_of checked fs

@@ -1,6 +1,5 @@
 -- What is done to a stored mesh; M5 to R19 are rows of docs/TRACE.md. Definitions only.
 use Rattle.std.specs.Prelude.{ℕ, ◌+◌, ◌*◌, Bool, true, ◌&&◌, List, length, pos, nat_le, nat_lt, slice_index_or, Float}
-use mathlib.Core.List.{foldl}
 use Rattle.std.specs.Float.{nan, binary32}
 use Rattle.std.specs.Float.Ieee.{of_int}
 use Rattle.face.specs.declared.vec.Vec2.{Vec2}

@@ -1,5 +1,5 @@
 -- `fused`: by way of `f64` where the pattern of the sum narrows, and else digit by digit. Assumes nothing.
-use Rattle.std.proofs.Common.{not, T, sym, ◌∙◌, subst, rules}
+use Rattle.std.proofs.Common.{not, T, sym, ◌∙◌, subst}
 use lib.Ieee.{binary32, fits, is_nan}
 use Rattle.arith.proofs.ByDouble.{equals_itself, widens, told-most, by-double, by-exact}
 use Rattle.arith.proofs.fused.Goals as goal

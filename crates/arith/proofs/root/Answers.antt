@@ -1,5 +1,5 @@
 -- `root`: the cases of the definition, told apart by the pattern. Assumes nothing.
-use Rattle.std.proofs.Common.{◌≡◌, T, sym, refl, ap, ◌∙◌, subst, arith, rules}
+use Rattle.std.proofs.Common.{◌≡◌, T, sym, refl, ap, ◌∙◌, subst, arith}
 use lib.Ieee.{nan, binary32, div, of_bits, fits}
 use lib.Ieee.Bits.{of_bits-to_bits, to_bits-lt}
 use Rattle.arith.specs.Root.{root}

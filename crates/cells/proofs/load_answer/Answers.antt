@@ -1,5 +1,4 @@
 -- `load_answer`: by the test. Assumes nothing.
-use borrow.Author.Rules.{rules}
 use mathlib.Core.Path.{sym, ◌∙◌}
 use Rattle.cells.specs.Cells.{load_answer}
 use Rattle.cells.proofs.load_answer.Goals as goal

@@ -1,5 +1,4 @@
 -- `load_count`: by the test. Assumes nothing.
-use borrow.Author.Rules.{rules}
 use mathlib.Core.Path.{sym, ◌∙◌}
 use Rattle.cells.specs.Cells.{load_count}
 use Rattle.cells.proofs.load_count.Goals as goal

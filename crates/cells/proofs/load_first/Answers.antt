@@ -1,4 +1,4 @@
-use Rattle.std.proofs.Common.{arith, ◌≡◌, ap, ◌∙◌, List, ℕ, Float}
+use Rattle.std.proofs.Common.{arith, ◌≡◌, ap, ◌∙◌, ℕ}
 use Rattle.cells.specs.Cells.{numbers_to, neighbours_to}
 use Rattle.cells.proofs.Storing.{numbers-none, neighbours-none, numbers_more, neighbours-more}
 use Rattle.cells.proofs.load_first.Goals as goal

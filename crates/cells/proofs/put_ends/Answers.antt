@@ -1,11 +1,7 @@
-use borrow.Author.Rules.{rules}
 use mathlib.Core.Path.{refl, sym}
-use Prim.Native.Nat.{◌-◌}
 use native.Mathlib.Omega.{arith}
-use lib.ListN.{get_or}
-use lib.Ieee.{nan}
 use Rattle.buffers.proofs.Laid.{laid-nothing}
-use Rattle.cells.proofs.Storing.{Stored, stored_more, stored-all}
+use Rattle.cells.proofs.Storing.{stored_more, stored-all}
 use Rattle.cells.proofs.put_ends.Goals as goal
 
 pub loop-j-init : goal.loop-j-init

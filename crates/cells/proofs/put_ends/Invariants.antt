@@ -1,12 +1,8 @@
 -- `put_ends`: a turn stores one number more. Assumes nothing.
-use borrow.Author.Rules.{rules}
-use mathlib.Core.Path.{refl, sym}
 use Prim.Native.Nat.{◌-◌}
-use native.Mathlib.Omega.{arith}
 use lib.ListN.{get_or}
 use lib.Ieee.{nan}
-use Rattle.buffers.proofs.Laid.{laid-nothing}
-use Rattle.cells.proofs.Storing.{Stored, stored_more, stored-all}
+use Rattle.cells.proofs.Storing.{Stored}
 use Rattle.cells.proofs.put_ends.Given as goal
 
 abbrev pub invariant-loop-j : goal.invariant-loop-j

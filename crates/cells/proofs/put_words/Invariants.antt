@@ -1,11 +1,7 @@
 -- `put_words`: a turn stores one number more. Assumes nothing.
-use borrow.Author.Rules.{rules}
-use mathlib.Core.Path.{refl, sym}
 use Prim.Native.Nat.{◌-◌}
-use native.Mathlib.Omega.{arith}
 use lib.ListN.{get_or}
-use Rattle.buffers.proofs.Laid.{laid-nothing}
-use Rattle.cells.proofs.Storing.{Stored, stored_more, stored-all}
+use Rattle.cells.proofs.Storing.{Stored}
 use Rattle.cells.proofs.put_words.Given as goal
 
 abbrev pub invariant-loop-j : goal.invariant-loop-j

@@ -1,8 +1,6 @@
 use borrow.Author.Rules.{rules}
-use Prim.Native.Nat.{◌-◌}
 use mathlib.Core.Path.{refl}
-use Rattle.face.proofs.Filling.{Filled, filled_more, filled-all}
-use Rattle.mesh.specs.Stored.{corner_from}
+use Rattle.face.proofs.Filling.{filled_more, filled-all}
 use Rattle.cheap_column.proofs.corners_of.Goals as goal
 
 pub loop-k-init : goal.loop-k-init

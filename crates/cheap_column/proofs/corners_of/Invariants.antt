@@ -1,8 +1,5 @@
 -- `corners_of`: a turn reads one corner. Assumes nothing.
-use borrow.Author.Rules.{rules}
-use Prim.Native.Nat.{◌-◌}
-use mathlib.Core.Path.{refl}
-use Rattle.face.proofs.Filling.{Filled, filled_more, filled-all}
+use Rattle.face.proofs.Filling.{Filled}
 use Rattle.mesh.specs.Stored.{corner_from}
 use Rattle.cheap_column.proofs.corners_of.Given as goal
 

@@ -1,5 +1,4 @@
 -- `faces`: the plan, and one face. Assumes nothing.
-use borrow.Author.Rules.{rules}
 use Rattle.cheap_column.proofs.faces.Goals as goal
 
 pub returns : goal.returns

@@ -1,11 +1,7 @@
 -- `from_middle`: a turn puts one difference. Assumes nothing.
-use borrow.Author.Rules.{rules}
-use Prim.Native.Nat.{◌-◌}
-use mathlib.Core.Path.{◌≡◌, refl}
-use lib.ListN.{length, get_or}
-use Rattle.face.specs.declared.vec.Vec3.{Vec3}
+use lib.ListN.{get_or}
 use Rattle.face.specs.Vec.{off3, minus3}
-use Rattle.face.proofs.Filling.{Filled, filled_more, filled-map}
+use Rattle.face.proofs.Filling.{Filled}
 use Rattle.cheap_column.proofs.from_middle.Given as goal
 
 abbrev pub invariant-loop-k : goal.invariant-loop-k

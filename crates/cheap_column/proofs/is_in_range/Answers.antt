@@ -1,5 +1,4 @@
 -- `is_in_range`: the corners, then the middle, then the height. Assumes nothing.
-use borrow.Author.Rules.{rules}
 use mathlib.Core.Path.{sym, ◌∙◌}
 use Rattle.cheap_column.proofs.is_in_range.Goals as goal
 

@@ -1,5 +1,4 @@
 -- `plan`: the length, then the numbers; twelve vertices are below the limit. Assumes nothing.
-use borrow.Author.Rules.{rules}
 use mathlib.Core.Path.{sym, ◌∙◌}
 use Rattle.cheap_column.proofs.Cheap.{misshapen, range-decides}
 use Rattle.cheap_column.proofs.plan.Goals as goal

@@ -1,5 +1,4 @@
 -- `put`: the points, the normals, the uvs and the table, each in its buffer. Assumes nothing.
-use borrow.Author.Rules.{rules}
 use mathlib.Core.Path.{◌≡◌, ap, ap₂, ◌∙◌}
 use mathlib.Core.List.{List, ◌++◌, map}
 use Rattle.face.specs.declared.vec.Vec2.{Vec2}

@@ -1,5 +1,4 @@
 -- `put_if_done`: its two cases. Assumes nothing.
-use borrow.Author.Rules.{rules}
 use mathlib.Core.Path.{ap, ◌∙◌}
 use mathlib.Core.List.{List}
 use Rattle.face.specs.declared.vec.Vec2.{Vec2}

@@ -1,10 +1,8 @@
-use borrow.Author.Rules.{rules}
-use Prim.Native.Nat.{◌-◌}
 use native.Mathlib.Nat.{zero-add}
 use native.Mathlib.Omega.{arith}
 use mathlib.Core.Path.{refl, sym}
 use Rattle.buffers.specs.Laying.{corners, spread}
-use Rattle.buffers.proofs.Laid.{laid-nothing, Copied, copied_more, copied_all}
+use Rattle.buffers.proofs.Laid.{laid-nothing, copied_more, copied_all}
 use Rattle.cheap_column.specs.CheapColumn.{cheap_triangles}
 use Rattle.cheap_column.proofs.put_indices.Goals as goal
 

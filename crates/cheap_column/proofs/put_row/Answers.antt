@@ -1,11 +1,10 @@
 use borrow.Author.Rules.{rules}
-use Prim.Native.Nat.{◌-◌}
 use native.Mathlib.Omega.{arith}
 use mathlib.Core.Path.{◌≡◌, refl, sym}
-use lib.ListN.{length, get_or, length-set}
+use lib.ListN.{length, length-set}
 use Rattle.face.specs.Vec.{off2}
 use Rattle.buffers.specs.Laying.{two}
-use Rattle.buffers.proofs.Laid.{laid-nothing, laid-two, Laying, laying-more}
+use Rattle.buffers.proofs.Laid.{laid-nothing, laid-two, laying-more}
 use Rattle.cheap_column.proofs.Cheap.{laying-all}
 use Rattle.cheap_column.proofs.put_row.Goals as goal
 

@@ -1,5 +1,5 @@
 -- `all_named`: the sides, then the top, then the bottom. Assumes nothing.
-use Rattle.std.proofs.Common.{sym, ◌∙◌, rules}
+use Rattle.std.proofs.Common.{sym, ◌∙◌}
 use Rattle.column.proofs.all_named.Goals as goal
 
 pub returns-then-choice_names : goal.returns-then-choice_names

@@ -1,6 +1,5 @@
-use Rattle.std.proofs.Common.{◌-◌, sym, refl, ◌∙◌, rules}
-use Rattle.answer.proofs.Laws.{Passed, passed-more, passed-not, passed-all}
-use Rattle.placement.specs.Options.{choice_names}
+use Rattle.std.proofs.Common.{sym, refl, ◌∙◌, rules}
+use Rattle.answer.proofs.Laws.{passed-more, passed-not, passed-all}
 use Rattle.column.specs.Column.{no_side}
 use Rattle.column.proofs.all_sides_named.Goals as goal
 

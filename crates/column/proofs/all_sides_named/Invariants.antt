@@ -1,6 +1,6 @@
 -- `all_sides_named`: every side before the one read names an option. Assumes nothing.
-use Rattle.std.proofs.Common.{◌-◌, sym, refl, ◌∙◌, rules}
-use Rattle.answer.proofs.Laws.{Passed, passed-more, passed-not, passed-all}
+use Rattle.std.proofs.Common.{◌-◌}
+use Rattle.answer.proofs.Laws.{Passed}
 use Rattle.placement.specs.Options.{choice_names}
 use Rattle.column.specs.Column.{no_side}
 use Rattle.column.proofs.all_sides_named.Given as goal

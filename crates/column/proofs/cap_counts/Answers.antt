@@ -1,5 +1,4 @@
 -- `cap_counts`: those of a hexagon with its inset. Assumes nothing.
-use Rattle.std.proofs.Common.{rules}
 use Rattle.column.proofs.cap_counts.Goals as goal
 
 pub returns-in-Absent : goal.returns-in-Absent

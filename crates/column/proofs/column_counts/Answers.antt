@@ -1,5 +1,5 @@
 -- `column_counts`: the sides, then the caps. Assumes nothing.
-use Rattle.std.proofs.Common.{arith, rules}
+use Rattle.std.proofs.Common.{arith}
 use Rattle.column.proofs.Counts.{cap-most}
 use Rattle.column.proofs.column_counts.Goals as goal
 

@@ -1,5 +1,4 @@
 -- `delta_of`: the height over the parts. Assumes nothing.
-use Rattle.std.proofs.Common.{rules}
 use Rattle.column.proofs.delta_of.Goals as goal
 
 pub returns : goal.returns

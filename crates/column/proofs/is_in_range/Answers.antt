@@ -1,5 +1,5 @@
 -- `is_in_range`: the pairs, then the corners, then the table, then the place. Assumes nothing.
-use Rattle.std.proofs.Common.{sym, ◌∙◌, rules}
+use Rattle.std.proofs.Common.{sym, ◌∙◌}
 use Rattle.column.proofs.is_in_range.Goals as goal
 
 pub returns-then-all_in_range-3 : goal.returns-then-all_in_range-3

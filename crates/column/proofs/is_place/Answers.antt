@@ -1,5 +1,5 @@
 -- `is_place`: the height, then the position, then the placement. Assumes nothing.
-use Rattle.std.proofs.Common.{sym, ◌∙◌, rules}
+use Rattle.std.proofs.Common.{sym, ◌∙◌}
 use Rattle.column.proofs.is_place.Goals as goal
 
 pub returns-then-in_range2 : goal.returns-then-in_range2

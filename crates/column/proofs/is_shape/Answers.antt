@@ -1,5 +1,5 @@
 -- `is_shape`: the pairs, then the corners, then the table, then the options. Assumes nothing.
-use Rattle.std.proofs.Common.{sym, ◌∙◌, rules}
+use Rattle.std.proofs.Common.{sym, ◌∙◌}
 use Rattle.column.proofs.is_shape.Goals as goal
 
 pub returns-then-is_table : goal.returns-then-is_table

@@ -1,5 +1,5 @@
 -- `parts_of`: at least one part. Assumes nothing.
-use Rattle.std.proofs.Common.{rules, eq-eqb, ne_eqb}
+use Rattle.std.proofs.Common.{eq-eqb, ne_eqb}
 use Rattle.column.proofs.parts_of.Goals as goal
 
 pub returns-then-n-eq0 : goal.returns-then-n-eq0

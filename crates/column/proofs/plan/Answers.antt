@@ -1,5 +1,5 @@
 -- `plan`: the shape, then the numbers, then the limit. Assumes nothing.
-use Rattle.std.proofs.Common.{true, false, sym, ◌∙◌, rules}
+use Rattle.std.proofs.Common.{true, false, sym, ◌∙◌}
 use Rattle.column.specs.Column.{lists}
 use Rattle.column.proofs.Counts.{misshapen, range-decides}
 use Rattle.column.proofs.plan.Goals as goal

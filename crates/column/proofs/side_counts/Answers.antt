@@ -1,5 +1,4 @@
 -- `side_counts`: as many times those of a quad with its inset. Assumes nothing.
-use Rattle.std.proofs.Common.{rules}
 use Rattle.column.proofs.Counts.{quad-small}
 use Rattle.column.proofs.side_counts.Goals as goal
 

@@ -1,4 +1,4 @@
-use Rattle.std.proofs.Common.{◌≡◌, ◌-◌, ◌≤◌, ap, ◌∙◌, add-one, arith, rules}
+use Rattle.std.proofs.Common.{◌≡◌, ◌≤◌, ap, ◌∙◌, add-one, arith, rules}
 use Rattle.column.specs.Column.{side_at}
 use Rattle.column.specs.Counts.{sides_counts}
 use Rattle.column.proofs.Counts.{side-most, sides-most}

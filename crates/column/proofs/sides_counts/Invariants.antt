@@ -1,8 +1,6 @@
 -- `sides_counts`: after d turns t has the counts of the first d sides. Assumes nothing.
-use Rattle.std.proofs.Common.{◌≡◌, ◌-◌, ◌≤◌, ap, ◌∙◌, add-one, arith, rules}
-use Rattle.column.specs.Column.{side_at}
+use Rattle.std.proofs.Common.{◌≡◌, ◌≤◌}
 use Rattle.column.specs.Counts.{sides_counts}
-use Rattle.column.proofs.Counts.{side-most, sides-most}
 use Rattle.column.proofs.sides_counts.Given as goal
 
 abbrev pub invariant-loop-d : goal.invariant-loop-d

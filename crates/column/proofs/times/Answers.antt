@@ -1,5 +1,5 @@
 -- `times`: no product of a 32-bit number and a small one is past 64 bits. Assumes nothing.
-use Rattle.std.proofs.Common.{◌*◌, ◌≤◌, refl, mul-le-mul, arith, rules}
+use Rattle.std.proofs.Common.{◌*◌, ◌≤◌, refl, mul-le-mul, arith}
 use Rattle.column.proofs.times.Goals as goal
 
 pub overflow_mul-result : goal.overflow_mul-result

@@ -1,5 +1,4 @@
 -- `build`: the plan, then the room, then every face. Assumes nothing.
-use borrow.Author.Rules.{rules}
 use mathlib.Core.Path.{sym, ◌∙◌}
 use Rattle.answer.proofs.Laws.{after-done, after-refused}
 use Rattle.buffers.specs.Mesh.{none}

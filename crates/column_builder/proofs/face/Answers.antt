@@ -1,5 +1,4 @@
 -- `face`: the plan, then the number, then the room, then the one face at its place. Assumes nothing.
-use borrow.Author.Rules.{rules}
 use mathlib.Core.Path.{sym, ap, subst, ◌∙◌}
 use Rattle.face.specs.declared.triangle.Counts.{Counts}
 use Rattle.answer.proofs.Laws.{after-done, after-refused}

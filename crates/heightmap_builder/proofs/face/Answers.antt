@@ -1,5 +1,4 @@
 -- `face`: the plan and the number, then the room, then the one face at its place. Assumes nothing.
-use borrow.Author.Rules.{rules}
 use mathlib.Core.Path.{sym, ap, ◌∙◌}
 use Rattle.answer.proofs.Laws.{after-done, after-refused}
 use Rattle.buffers.specs.Mesh.{none}

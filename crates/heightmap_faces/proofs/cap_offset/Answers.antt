@@ -1,5 +1,4 @@
 -- `cap_offset`: the position plus the way up. Assumes nothing.
-use borrow.Author.Rules.{rules}
 use Rattle.heightmap_faces.proofs.cap_offset.Goals as goal
 
 pub returns : goal.returns

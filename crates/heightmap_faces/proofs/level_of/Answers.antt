@@ -1,5 +1,4 @@
 -- `level_of`: the v of the height. Assumes nothing.
-use borrow.Author.Rules.{rules}
 use Rattle.heightmap_faces.proofs.level_of.Goals as goal
 
 pub returns : goal.returns

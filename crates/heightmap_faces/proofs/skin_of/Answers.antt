@@ -1,5 +1,4 @@
 -- `skin_of`: the u of 0 and of 1. Assumes nothing.
-use borrow.Author.Rules.{rules}
 use Rattle.heightmap_faces.proofs.skin_of.Goals as goal
 
 pub returns : goal.returns

@@ -1,5 +1,4 @@
 -- `top_of`: the hexagon by its promise. Assumes nothing.
-use borrow.Author.Rules.{rules}
 use Rattle.heightmap_faces.proofs.top_of.Goals as goal
 
 pub returns : goal.returns

@@ -1,5 +1,4 @@
 -- `up_of`: the v of an altered uv. Assumes nothing.
-use borrow.Author.Rules.{rules}
 use Rattle.heightmap_faces.proofs.up_of.Goals as goal
 
 pub returns : goal.returns

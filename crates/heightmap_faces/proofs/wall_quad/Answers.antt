@@ -1,5 +1,4 @@
 -- `wall_quad`: the points and the normal of a quad, and uvs of the skin. Assumes nothing.
-use borrow.Author.Rules.{rules}
 use Rattle.heightmap_faces.proofs.wall_quad.Goals as goal
 
 pub returns : goal.returns

@@ -1,17 +1,16 @@
-use borrow.Author.Rules.{rules}
-use mathlib.Core.Path.{◌≡◌, sym, ap, ap₂, ◌∙◌}
+use mathlib.Core.Path.{◌≡◌, sym, ap, ◌∙◌}
 use native.Mathlib.Omega.{arith}
 use Rattle.buffers.specs.Laying.{Buffers, four, lay_each}
 use Rattle.heightmap.specs.Grid.{grid}
 use Rattle.heightmap.specs.HeightMap.{lists}
-use Prim.Native.Nat.{ℕ, ◌+◌, ◌*◌, ◌-◌, ◌≤◌}
+use Prim.Native.Nat.{ℕ}
 use mathlib.Core.List.{map}
-use mathlib.Core.Logic.{inl, inr, ⊎_elim}
+use mathlib.Core.Logic.{inl, inr}
 use native.Mathlib.Numerals.{add-one}
 use lib.ListN.{length}
 use Rattle.face.specs.Lists.{chain}
 use Rattle.buffers.specs.Mesh.{none}
-use Rattle.buffers.proofs.Each.{SoFar, so-far-none, each-lengths}
+use Rattle.buffers.proofs.Each.{so-far-none, each-lengths}
 use Rattle.heightmap.specs.declared.Name.TheVariants.{Cap}
 use mathlib.Core.Bool.{cond}
 use Rattle.answer.specs.Checks.{cell_count}

@@ -1,28 +1,15 @@
 -- `put_all`: after k turns the first k cells are laid, the place is past them, and the cap kept is that of its number. Assumes nothing.
-use borrow.Author.Rules.{rules}
-use mathlib.Core.Path.{◌≡◌, sym, ap, ap₂, ◌∙◌}
-use native.Mathlib.Omega.{arith}
-use Rattle.buffers.specs.Laying.{Buffers, four, lay_each}
+use mathlib.Core.Path.{◌≡◌}
+use Rattle.buffers.specs.Laying.{four}
 use Rattle.heightmap.specs.Grid.{grid}
 use Rattle.heightmap.specs.HeightMap.{lists}
-use Prim.Native.Nat.{ℕ, ◌+◌, ◌*◌, ◌-◌, ◌≤◌}
+use Prim.Native.Nat.{◌*◌, ◌≤◌}
 use mathlib.Core.List.{map}
-use mathlib.Core.Logic.{inl, inr, ⊎_elim}
-use native.Mathlib.Numerals.{add-one}
-use lib.ListN.{length}
 use Rattle.face.specs.Lists.{chain}
 use Rattle.buffers.specs.Mesh.{none}
-use Rattle.buffers.proofs.Each.{SoFar, so-far-none, each-lengths}
-use Rattle.heightmap.specs.declared.Name.TheVariants.{Cap}
-use mathlib.Core.Bool.{cond}
-use Rattle.answer.specs.Checks.{cell_count}
+use Rattle.buffers.proofs.Each.{SoFar}
 use Rattle.heightmap.specs.HeightMap.{cell_names, mesh_of}
-use Rattle.heightmap_faces.specs.declared.kept.KeptTop.{KeptTop}
-use Rattle.heightmap_faces.specs.Speed.{top_of}
 use Rattle.heightmap_faces.specs.Kept.{top_by}
-use Rattle.heightmap_laying.specs.declared.Shared.{Shared}
-use Rattle.heightmap_laying.proofs.Cells.{shared-for, tops-kept, cell-more, all_laid_lem}
-use Rattle.heightmap_laying.proofs.Walls.{option-chosen}
 use Rattle.heightmap_laying.proofs.put_all.Given as goal
 
 abbrev pub invariant-loop-k : goal.invariant-loop-k

@@ -1,5 +1,4 @@
 -- `put_cap`: without an inset the plain face is the cap. Assumes nothing.
-use borrow.Author.Rules.{rules}
 use mathlib.Core.Path.{sym, ap, ◌∙◌}
 use Rattle.buffers.specs.declared.plain.Plain.{Plain}
 use Rattle.buffers.specs.Mesh.{Mesh}

@@ -1,5 +1,4 @@
 -- `put_cap_if`: by the cases of the choice. Assumes nothing.
-use borrow.Author.Rules.{rules}
 use mathlib.Core.Path.{ap, ◌∙◌}
 use native.Mathlib.Omega.{arith}
 use Rattle.placement.specs.declared.options.Choice.{Choice}

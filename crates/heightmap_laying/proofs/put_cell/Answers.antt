@@ -1,8 +1,7 @@
 -- `put_cell`: the cap, then the walls, each at the place past what lies before it. Assumes nothing.
-use borrow.Author.Rules.{rules}
-use mathlib.Core.Path.{◌≡◌, sym, ap, ap₂, ◌∙◌}
+use mathlib.Core.Path.{ap, ap₂, ◌∙◌}
 use native.Mathlib.Omega.{arith}
-use Rattle.buffers.specs.Laying.{Buffers, four, lay_each}
+use Rattle.buffers.specs.Laying.{four, lay_each}
 use Rattle.heightmap.specs.Grid.{grid}
 use Rattle.heightmap.specs.HeightMap.{lists}
 use mathlib.Core.List.{[]}

@@ -1,8 +1,6 @@
 -- `put_named`: by the cases of the name. Assumes nothing.
-use borrow.Author.Rules.{rules}
-use mathlib.Core.Path.{◌≡◌, sym, ap, ap₂, ◌∙◌}
-use native.Mathlib.Omega.{arith}
-use Rattle.buffers.specs.Laying.{Buffers, four, lay_each}
+use mathlib.Core.Path.{sym, ap, ◌∙◌}
+use Rattle.buffers.specs.Laying.{four}
 use Rattle.heightmap.specs.Grid.{grid}
 use Rattle.heightmap.specs.HeightMap.{lists}
 use Rattle.buffers.specs.Mesh.{Mesh}

@@ -1,18 +1,16 @@
-use borrow.Author.Rules.{rules}
-use Prim.Native.Nat.{ℕ, ◌+◌, ◌*◌, ◌-◌, ◌≤◌}
+use Prim.Native.Nat.{ℕ}
 use mathlib.Core.Path.{◌≡◌, refl, sym, ap, ◌∙◌}
-use mathlib.Core.Bool.{Bool, true, cond}
+use mathlib.Core.Bool.{Bool, cond}
 use mathlib.Core.List.{[]}
 use native.Mathlib.Numerals.{add-one}
 use native.Mathlib.Omega.{arith}
 use lib.ListN.{length}
 use Rattle.buffers.specs.Mesh.{also, measure}
 use Rattle.buffers.specs.Laying.{Buffers, four, lay_each}
-use Rattle.buffers.proofs.Each.{SoFar, so-far-none, each-lengths}
+use Rattle.buffers.proofs.Each.{so-far-none, each-lengths}
 use Rattle.heightmap.specs.declared.Name.TheVariants.{Side}
-use Rattle.heightmap.specs.Grid.{grid, present}
+use Rattle.heightmap.specs.Grid.{grid}
 use Rattle.heightmap.specs.HeightMap.{lists}
-use mathlib.Core.Logic.{⊎_elim}
 use Rattle.heightmap_faces.specs.declared.kept.KeptLevel.{KeptLevel}
 use Rattle.heightmap_faces.specs.Kept.{number_in, level_by}
 use Rattle.heightmap_laying.specs.declared.Shared.{Shared}

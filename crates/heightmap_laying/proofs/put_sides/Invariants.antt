@@ -1,24 +1,13 @@
 -- `put_sides`: after d turns the first d walls are laid, the place is past them, and what is kept is made of its number. Assumes nothing.
-use borrow.Author.Rules.{rules}
-use Prim.Native.Nat.{ℕ, ◌+◌, ◌*◌, ◌-◌, ◌≤◌}
-use mathlib.Core.Path.{◌≡◌, refl, sym, ap, ◌∙◌}
-use mathlib.Core.Bool.{Bool, true, cond}
+use Prim.Native.Nat.{◌+◌, ◌*◌, ◌≤◌}
+use mathlib.Core.Path.{◌≡◌}
 use mathlib.Core.List.{[]}
-use native.Mathlib.Numerals.{add-one}
-use native.Mathlib.Omega.{arith}
-use lib.ListN.{length}
-use Rattle.buffers.specs.Mesh.{also, measure}
-use Rattle.buffers.specs.Laying.{Buffers, four, lay_each}
-use Rattle.buffers.proofs.Each.{SoFar, so-far-none, each-lengths}
-use Rattle.heightmap.specs.declared.Name.TheVariants.{Side}
-use Rattle.heightmap.specs.Grid.{grid, present}
+use Rattle.buffers.specs.Laying.{four}
+use Rattle.buffers.proofs.Each.{SoFar}
+use Rattle.heightmap.specs.Grid.{grid}
 use Rattle.heightmap.specs.HeightMap.{lists}
-use mathlib.Core.Logic.{⊎_elim}
-use Rattle.heightmap_faces.specs.declared.kept.KeptLevel.{KeptLevel}
-use Rattle.heightmap_faces.specs.Kept.{number_in, level_by}
-use Rattle.heightmap_laying.specs.declared.Shared.{Shared}
+use Rattle.heightmap_faces.specs.Kept.{level_by}
 use Rattle.heightmap_laying.specs.Shared.{sides_faces}
-use Rattle.heightmap_laying.proofs.Walls.{chosen_for, own-kept, level-chosen, side-more}
 use Rattle.heightmap_laying.proofs.put_sides.Given as goal
 
 abbrev pub invariant-loop-d : goal.invariant-loop-d

@@ -1,5 +1,4 @@
 -- `shared_of`: each part by its promise. Assumes nothing.
-use borrow.Author.Rules.{rules}
 use Rattle.heightmap.specs.Grid.{span_of}
 use Rattle.heightmap_laying.proofs.shared_of.Goals as goal
 

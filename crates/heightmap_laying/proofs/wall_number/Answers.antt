@@ -1,7 +1,5 @@
 -- `wall_number`: by whether it is present. Assumes nothing.
-use borrow.Author.Rules.{rules}
-use mathlib.Core.Path.{sym, ap, ◌∙◌}
-use mathlib.Core.Bool.{Bool, cond}
+use mathlib.Core.Path.{sym, ◌∙◌}
 use Rattle.heightmap_laying.proofs.wall_number.Goals as goal
 
 pub returns-then-is_present : goal.returns-then-is_present

@@ -1,5 +1,4 @@
 -- `are_customs`: the length, then each number. Assumes nothing.
-use borrow.Author.Rules.{rules}
 use mathlib.Core.Path.{sym, ◌∙◌}
 use Rattle.heightmap_plan.proofs.are_customs.Goals as goal
 

@@ -1,5 +1,4 @@
 -- `are_named`: the customs, then the caps, then the sides. Assumes nothing.
-use borrow.Author.Rules.{rules}
 use mathlib.Core.Path.{sym, ◌∙◌}
 use Rattle.heightmap_plan.proofs.are_named.Goals as goal
 

@@ -1,5 +1,4 @@
 -- `check`: the shape, then the numbers, then the neighbours. Assumes nothing.
-use borrow.Author.Rules.{rules}
 use mathlib.Core.Bool.{true, false}
 use mathlib.Core.Path.{sym, ◌∙◌}
 use Rattle.heightmap.specs.Grid.{grid}

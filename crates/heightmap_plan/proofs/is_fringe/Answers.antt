@@ -1,5 +1,4 @@
 -- `is_fringe`: none, or its length. Assumes nothing.
-use borrow.Author.Rules.{rules}
 use Rattle.heightmap_plan.proofs.is_fringe.Goals as goal
 
 pub returns-in-Listed : goal.returns-in-Listed

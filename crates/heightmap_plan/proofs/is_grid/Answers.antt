@@ -1,5 +1,4 @@
 -- `is_grid`: the limit, then the cells, then the neighbours, then the fringe. Assumes nothing.
-use borrow.Author.Rules.{rules}
 use mathlib.Core.Path.{sym, ◌∙◌}
 use Rattle.heightmap_plan.proofs.is_grid.Goals as goal
 

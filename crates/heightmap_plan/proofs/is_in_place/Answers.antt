@@ -1,5 +1,4 @@
 -- `is_in_place`: the range, then the origin, then the placement. Assumes nothing.
-use borrow.Author.Rules.{rules}
 use mathlib.Core.Path.{sym, ◌∙◌}
 use Rattle.heightmap_plan.proofs.is_in_place.Goals as goal
 

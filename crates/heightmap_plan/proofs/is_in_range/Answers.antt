@@ -1,5 +1,4 @@
 -- `is_in_range`: the cells, then the fringe, then the job. Assumes nothing.
-use borrow.Author.Rules.{rules}
 use mathlib.Core.Path.{sym, ◌∙◌}
 use Rattle.heightmap_plan.proofs.is_in_range.Goals as goal
 

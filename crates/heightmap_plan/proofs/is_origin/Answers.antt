@@ -1,5 +1,4 @@
 -- `is_origin`: none, or in range. Assumes nothing.
-use borrow.Author.Rules.{rules}
 use Rattle.heightmap_plan.proofs.is_origin.Goals as goal
 
 pub returns-in-At : goal.returns-in-At

@@ -1,5 +1,4 @@
 -- `is_range`: none, or both ends in range. Assumes nothing.
-use borrow.Author.Rules.{rules}
 use mathlib.Core.Path.{sym, ◌∙◌}
 use Rattle.heightmap_plan.proofs.is_range.Goals as goal
 

@@ -1,5 +1,4 @@
 -- `is_shape`: the grid, then the corners, then the table, then the options. Assumes nothing.
-use borrow.Author.Rules.{rules}
 use mathlib.Core.Path.{sym, ◌∙◌}
 use Rattle.heightmap_plan.proofs.is_shape.Goals as goal
 

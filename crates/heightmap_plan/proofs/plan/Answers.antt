@@ -1,5 +1,4 @@
 -- `plan`: the sums, then the tests. Assumes nothing.
-use borrow.Author.Rules.{rules}
 use mathlib.Core.Path.{ap, ◌∙◌}
 use Rattle.answer.specs.Answers.{limited}
 use Rattle.heightmap.specs.Grid.{grid}

@@ -1,5 +1,4 @@
 -- `reason_by`: by the wall. Assumes nothing.
-use borrow.Author.Rules.{rules}
 use Rattle.heightmap_why.proofs.reason_by.Goals as goal
 
 pub returns-in-AsHigh : goal.returns-in-AsHigh

@@ -1,5 +1,4 @@
 -- `side_in`: by the test. Assumes nothing.
-use borrow.Author.Rules.{rules}
 use borrow.Author.Tests.{lt-ltb, le-ltb}
 use Rattle.heightmap_why.proofs.side_in.Goals as goal
 

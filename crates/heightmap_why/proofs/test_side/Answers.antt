@@ -1,5 +1,4 @@
 -- `test_side`: the tests, one after the other. Assumes nothing.
-use borrow.Author.Rules.{rules}
 use Prim.Native.Nat.{ℕ}
 use mathlib.Core.Path.{ap, ap₂, ◌∙◌}
 use Rattle.answer.specs.declared.answer.Answer.{Answer}

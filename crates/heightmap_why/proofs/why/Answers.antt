@@ -1,5 +1,4 @@
 -- `why`: the walk, the tests, the wall and its number. Assumes nothing.
-use borrow.Author.Rules.{rules}
 use mathlib.Core.Path.{ap, ◌∙◌}
 use Rattle.heightmap.specs.Grid.{grid}
 use Rattle.heightmap_plan.specs.declared.names.Placed.{Placed}

@@ -1,5 +1,4 @@
 -- `why_by`: by the answer. Assumes nothing.
-use borrow.Author.Rules.{rules}
 use Rattle.heightmap_why.proofs.why_by.Goals as goal
 
 pub returns-in-Refused : goal.returns-in-Refused

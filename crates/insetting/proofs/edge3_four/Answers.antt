@@ -1,9 +1,7 @@
 use borrow.Author.Rules.{rules}
-use Prim.Native.Nat.{◌-◌}
 use mathlib.Core.Path.{◌≡◌, refl}
 use lib.ListN.{length}
-use Rattle.insetting.specs.Edges.{point_by_at}
-use Rattle.face.proofs.Filling.{Filled, filled_more, filled-all}
+use Rattle.face.proofs.Filling.{filled_more, filled-all}
 use Rattle.insetting.proofs.edge3_four.Goals as goal
 
 pub loop-i-init : goal.loop-i-init

@@ -1,5 +1,4 @@
 -- `edge_point`: next first, then previous. Assumes nothing.
-use borrow.Author.Rules.{rules}
 use Rattle.insetting.proofs.edge_point.Goals as goal
 
 pub returns : goal.returns

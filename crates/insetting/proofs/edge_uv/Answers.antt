@@ -1,5 +1,4 @@
 -- `edge_uv`: next first, then previous. Assumes nothing.
-use borrow.Author.Rules.{rules}
 use Rattle.insetting.proofs.edge_uv.Goals as goal
 
 pub returns : goal.returns

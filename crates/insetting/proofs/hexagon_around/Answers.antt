@@ -1,5 +1,4 @@
 -- `hexagon_around`: the outer face, then the inner one. Assumes nothing.
-use borrow.Author.Rules.{rules}
 use Rattle.insetting.proofs.hexagon_around.Goals as goal
 
 pub returns : goal.returns

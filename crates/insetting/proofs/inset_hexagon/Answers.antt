@@ -1,5 +1,4 @@
 -- `inset_hexagon`: the three kinds of inset, the inner face after the outer one. Assumes nothing.
-use borrow.Author.Rules.{rules}
 use Rattle.insetting.proofs.Lengths.{edged3-by, edged2-by}
 use Rattle.insetting.proofs.inset_hexagon.Goals as goal
 

@@ -1,5 +1,4 @@
 -- `length_of`: the difference, then its length. Assumes nothing.
-use borrow.Author.Rules.{rules}
 use Rattle.insetting.proofs.length_of.Goals as goal
 
 pub returns : goal.returns

@@ -1,10 +1,6 @@
 -- `lengths_four`: the loop fills the array with each edge's length. Assumes nothing.
-use borrow.Author.Rules.{rules}
-use Prim.Native.Nat.{◌-◌}
-use mathlib.Core.Path.{◌≡◌, refl}
-use lib.ListN.{length}
 use Rattle.insetting.specs.Edges.{edge_at}
-use Rattle.face.proofs.Filling.{Filled, filled_more, filled-all}
+use Rattle.face.proofs.Filling.{Filled}
 use Rattle.insetting.proofs.lengths_four.Given as goal
 
 abbrev pub invariant-loop-i : goal.invariant-loop-i

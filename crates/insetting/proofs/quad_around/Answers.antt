@@ -1,5 +1,4 @@
 -- `quad_around`: the outer face, then the inner one. Assumes nothing.
-use borrow.Author.Rules.{rules}
 use Rattle.insetting.proofs.quad_around.Goals as goal
 
 pub returns : goal.returns

@@ -1,11 +1,8 @@
 -- `shrink2_four`: the loop fills the array, point by point. Assumes nothing.
-use borrow.Author.Rules.{rules}
-use Prim.Native.Nat.{◌-◌}
-use mathlib.Core.Path.{◌≡◌, refl}
-use lib.ListN.{length, get_or}
+use lib.ListN.{get_or}
 use Rattle.face.specs.Vec.{off2}
 use Rattle.face.specs.Inset.{toward2}
-use Rattle.face.proofs.Filling.{Filled, filled_more, filled-map}
+use Rattle.face.proofs.Filling.{Filled}
 use Rattle.insetting.proofs.shrink2_four.Given as goal
 
 abbrev pub invariant-loop-i : goal.invariant-loop-i

@@ -1,5 +1,4 @@
 -- `step_along`: the direction, then times the distance. Assumes nothing.
-use borrow.Author.Rules.{rules}
 use Rattle.insetting.proofs.step_along.Goals as goal
 
 pub returns : goal.returns

@@ -1,5 +1,4 @@
 -- `toward_2`: the steps of the definition. Assumes nothing.
-use borrow.Author.Rules.{rules}
 use Rattle.insetting.proofs.toward_2.Goals as goal
 
 pub returns : goal.returns

@@ -1,5 +1,4 @@
 -- `toward_3`: the steps of the definition. Assumes nothing.
-use borrow.Author.Rules.{rules}
 use Rattle.insetting.proofs.toward_3.Goals as goal
 
 pub returns : goal.returns

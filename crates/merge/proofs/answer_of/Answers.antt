@@ -1,5 +1,4 @@
 -- `answer_of`: the lists hold both meshes, then the source's indices, the limit and the room. Assumes nothing.
-use borrow.Author.Rules.{rules}
 use native.Mathlib.Omega.{arith}
 use mathlib.Core.Path.{sym, ◌∙◌}
 use lib.ListN.{length}

@@ -1,5 +1,4 @@
 -- `append`: the four lists one by one. Assumes nothing.
-use borrow.Author.Rules.{rules}
 use native.Mathlib.Omega.{arith}
 use Rattle.buffers.specs.Laying.{four}
 use Rattle.buffers.proofs.Order.{same-four}

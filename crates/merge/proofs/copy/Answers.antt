@@ -1,11 +1,8 @@
-use borrow.Author.Rules.{rules}
-use Prim.Native.Nat.{◌-◌}
 use native.Mathlib.Omega.{arith}
 use mathlib.Core.Path.{refl, sym, ap, ◌∙◌}
-use lib.ListN.{length}
 use lib.Ieee.{nan}
 use Rattle.buffers.specs.Laying.{laid}
-use Rattle.buffers.proofs.Laid.{laid-nothing, Copied, copied_more, copied_all}
+use Rattle.buffers.proofs.Laid.{laid-nothing, copied_more, copied_all}
 use Rattle.merge.proofs.Copying.{map_same}
 use Rattle.merge.proofs.copy.Goals as goal
 

@@ -1,9 +1,7 @@
-use borrow.Author.Rules.{rules}
-use Prim.Native.Nat.{◌-◌, ◌+◌}
+use Prim.Native.Nat.{◌+◌}
 use native.Mathlib.Omega.{arith}
 use mathlib.Core.Path.{refl, sym}
-use lib.ListN.{length}
-use Rattle.buffers.proofs.Laid.{laid-nothing, Copied, copied_more, copied_all}
+use Rattle.buffers.proofs.Laid.{laid-nothing, copied_more, copied_all}
 use Rattle.merge.proofs.copy_after.Goals as goal
 
 pub loop-k-init : goal.loop-k-init

@@ -1,10 +1,7 @@
 -- `copy_after`: a turn lays one number more, and none is past 16 bits. Assumes nothing.
-use borrow.Author.Rules.{rules}
 use Prim.Native.Nat.{◌-◌, ◌+◌}
-use native.Mathlib.Omega.{arith}
-use mathlib.Core.Path.{refl, sym}
 use lib.ListN.{length}
-use Rattle.buffers.proofs.Laid.{laid-nothing, Copied, copied_more, copied_all}
+use Rattle.buffers.proofs.Laid.{Copied}
 use Rattle.merge.proofs.copy_after.Given as goal
 
 abbrev pub invariant-loop-k : goal.invariant-loop-k

@@ -1,5 +1,4 @@
 -- `merge`: the tests decide, and what is done is appended. Assumes nothing.
-use borrow.Author.Rules.{rules}
 use mathlib.Core.Path.{sym, ◌∙◌}
 use Rattle.answer.proofs.Laws.{after-done, after-refused}
 use Rattle.buffers.specs.Laying.{four}

@@ -1,5 +1,4 @@
 -- `digit_value`: its tests are the definition's. Assumes nothing.
-use borrow.Author.Rules.{rules}
 use borrow.Author.Tests.{lt-ltb, le-ltb, le-leb, lt-leb}
 use Rattle.patterns.specs.Digits.{digit_value}
 use Rattle.patterns.proofs.digit_value.Goals as goal

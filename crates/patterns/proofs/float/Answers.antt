@@ -7,7 +7,6 @@ use lib.Dec.{T}
 use lib.Arith.{le→nltb}
 use lib.Ieee.{Float, nan, inf, fin, binary32, div, of_bits, is_nan}
 use lib.Ieee.Bits.{nan_bits_above, nan_bits_is}
-use borrow.Author.Rules.{rules}
 use borrow.Author.Tests.{lt-ltb}
 use Rattle.patterns.proofs.float.Goals as goal
 

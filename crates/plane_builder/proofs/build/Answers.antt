@@ -1,5 +1,4 @@
 -- `build`: the plan, then the room, then the one face. Assumes nothing.
-use borrow.Author.Rules.{rules}
 use mathlib.Core.Path.{ap, ◌∙◌}
 use Rattle.answer.specs.declared.answer.Answer.{Answer}
 use Rattle.buffers.specs.Laying.{four}

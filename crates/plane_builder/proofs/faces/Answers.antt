@@ -1,5 +1,4 @@
 -- `faces`: the plan, and one face. Assumes nothing.
-use borrow.Author.Rules.{rules}
 use Rattle.plane_builder.proofs.faces.Goals as goal
 
 pub returns : goal.returns

@@ -1,5 +1,4 @@
 -- `is_in_range`: the corners, then the table, then the place. Assumes nothing.
-use borrow.Author.Rules.{rules}
 use mathlib.Core.Path.{sym, ◌∙◌}
 use Rattle.plane_builder.proofs.is_in_range.Goals as goal
 

@@ -1,5 +1,4 @@
 -- `is_place`: the position, then the placement. Assumes nothing.
-use borrow.Author.Rules.{rules}
 use mathlib.Core.Path.{sym, ◌∙◌}
 use Rattle.plane_builder.proofs.is_place.Goals as goal
 

@@ -1,5 +1,4 @@
 -- `is_shape`: the corners, then the table, then the option. Assumes nothing.
-use borrow.Author.Rules.{rules}
 use mathlib.Core.Path.{sym, ◌∙◌}
 use Rattle.plane_builder.proofs.is_shape.Goals as goal
 

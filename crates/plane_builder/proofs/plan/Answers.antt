@@ -1,5 +1,4 @@
 -- `plan`: the shape, then the numbers, then the limit. Assumes nothing.
-use borrow.Author.Rules.{rules}
 use mathlib.Core.Bool.{true, false}
 use mathlib.Core.Path.{sym, ◌∙◌}
 use Rattle.plane_builder.specs.Plane.{lists}

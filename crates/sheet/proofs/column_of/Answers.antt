@@ -1,5 +1,4 @@
 -- `column_of`: field by field. Assumes nothing.
-use borrow.Author.Rules.{rules}
 use Rattle.sheet.proofs.column_of.Goals as goal
 
 pub returns : goal.returns

@@ -1,10 +1,9 @@
 use borrow.Author.Rules.{rules}
-use Prim.Native.Nat.{◌-◌}
 use native.Mathlib.Omega.{arith}
-use mathlib.Core.Path.{◌≡◌, refl}
+use mathlib.Core.Path.{refl}
 use lib.ListN.{length, get_or, length-set}
 use lib.Ieee.{binary32, of_bits}
-use Rattle.face.proofs.Filling.{Filled, filled_more, filled-map}
+use Rattle.face.proofs.Filling.{filled_more, filled-map}
 use Rattle.sheet.proofs.fill_floats.Goals as goal
 
 pub loop-i-init : goal.loop-i-init

@@ -1,11 +1,8 @@
 -- `fill_floats`: a turn fills one number more. Assumes nothing.
-use borrow.Author.Rules.{rules}
-use Prim.Native.Nat.{◌-◌}
-use native.Mathlib.Omega.{arith}
-use mathlib.Core.Path.{◌≡◌, refl}
-use lib.ListN.{length, get_or, length-set}
+use mathlib.Core.Path.{◌≡◌}
+use lib.ListN.{length, get_or}
 use lib.Ieee.{binary32, of_bits}
-use Rattle.face.proofs.Filling.{Filled, filled_more, filled-map}
+use Rattle.face.proofs.Filling.{Filled}
 use Rattle.sheet.proofs.fill_floats.Given as goal
 
 abbrev pub invariant-loop-i : goal.invariant-loop-i

@@ -1,5 +1,4 @@
 -- `sides_of`: six choices. Assumes nothing.
-use borrow.Author.Rules.{rules}
 use Rattle.sheet.proofs.sides_of.Goals as goal
 
 pub returns : goal.returns

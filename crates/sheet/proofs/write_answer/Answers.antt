@@ -1,5 +1,4 @@
 -- `write_answer`: what reads is answered as its column. Assumes nothing.
-use borrow.Author.Rules.{rules}
 use mathlib.Core.Bool.{true, false}
 use borrow.Author.Tests.{not-true, not-false}
 use Rattle.sheet.proofs.Printing.{reading-written}

@@ -1,5 +1,4 @@
 -- `write_column`: the buffers have room for 1,024 vertices. Assumes nothing.
-use borrow.Author.Rules.{rules}
 use mathlib.Core.Path.{sym, ◌∙◌}
 use mathlib.Core.List.{[]}
 use Rattle.column.specs.Column.{lists}

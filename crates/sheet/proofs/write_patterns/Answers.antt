@@ -1,5 +1,4 @@
 -- `write_patterns`: the lists hold the patterns' numbers. Assumes nothing.
-use borrow.Author.Rules.{rules}
 use Rattle.sheet.proofs.write_patterns.Goals as goal
 
 pub returns : goal.returns

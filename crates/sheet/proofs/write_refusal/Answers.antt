@@ -1,5 +1,4 @@
 -- `write_refusal`: the number is the refusal's. Assumes nothing.
-use borrow.Author.Rules.{rules}
 use Rattle.sheet.proofs.write_refusal.Goals as goal
 
 pub returns : goal.returns

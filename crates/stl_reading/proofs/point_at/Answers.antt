@@ -1,5 +1,4 @@
 -- `point_at`: three numbers, one after another. Assumes nothing.
-use borrow.Author.Rules.{rules}
 use Rattle.stl_reading.proofs.point_at.Goals as goal
 
 pub returns : goal.returns

@@ -1,5 +1,4 @@
 -- `put_corners`: three points that were read are laid. Assumes nothing.
-use borrow.Author.Rules.{rules}
 use Rattle.stl_reading.proofs.put_corners.Goals as goal
 
 pub returns : goal.returns

@@ -1,8 +1,6 @@
-use borrow.Author.Rules.{rules}
 use native.Mathlib.Omega.{arith}
-use Prim.Native.Nat.{ℕ, ◌-◌}
 use mathlib.Core.Path.{refl, sym}
-use Rattle.buffers.proofs.Laid.{laid-nothing, Stored, stored_next, stored-all}
+use Rattle.buffers.proofs.Laid.{laid-nothing, stored_next, stored-all}
 use Rattle.stl_reading.proofs.put_places.Goals as goal
 
 pub loop-k-init : goal.loop-k-init

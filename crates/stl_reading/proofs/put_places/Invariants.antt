@@ -1,9 +1,6 @@
 -- `put_places`: a turn lays one place more. Assumes nothing.
-use borrow.Author.Rules.{rules}
-use native.Mathlib.Omega.{arith}
-use Prim.Native.Nat.{ℕ, ◌-◌}
-use mathlib.Core.Path.{refl, sym}
-use Rattle.buffers.proofs.Laid.{laid-nothing, Stored, stored_next, stored-all}
+use Prim.Native.Nat.{ℕ}
+use Rattle.buffers.proofs.Laid.{Stored}
 use Rattle.stl_reading.proofs.put_places.Given as goal
 
 abbrev pub invariant-loop-k : goal.invariant-loop-k

@@ -1,8 +1,6 @@
-use borrow.Author.Rules.{rules}
 use native.Mathlib.Omega.{arith}
-use Prim.Native.Nat.{◌-◌}
 use mathlib.Core.Path.{refl, sym}
-use Rattle.buffers.proofs.Laid.{laid-nothing, Laying, laying-done}
+use Rattle.buffers.proofs.Laid.{laid-nothing, laying-done}
 use Rattle.stl.specs.File.{filed_facet}
 use Rattle.stl_reading.specs.Reading.{corners_of, normals_of}
 use Rattle.stl_reading.proofs.Unpacking.{nine-more}

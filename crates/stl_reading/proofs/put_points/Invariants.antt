@@ -1,12 +1,7 @@
 -- `put_points`: a turn lays the points of one triangle more in either buffer. Assumes nothing.
-use borrow.Author.Rules.{rules}
-use native.Mathlib.Omega.{arith}
-use Prim.Native.Nat.{◌-◌}
-use mathlib.Core.Path.{refl, sym}
-use Rattle.buffers.proofs.Laid.{laid-nothing, Laying, laying-done}
+use Rattle.buffers.proofs.Laid.{Laying}
 use Rattle.stl.specs.File.{filed_facet}
 use Rattle.stl_reading.specs.Reading.{corners_of, normals_of}
-use Rattle.stl_reading.proofs.Unpacking.{nine-more}
 use Rattle.stl_reading.proofs.put_points.Given as goal
 
 abbrev pub invariant-loop-k : goal.invariant-loop-k

@@ -1,5 +1,4 @@
 -- `read`: the tests decide, and what is done is unpacked. Assumes nothing.
-use borrow.Author.Rules.{rules}
 use mathlib.Core.Path.{sym, ◌∙◌}
 use Rattle.buffers.specs.Laying.{four}
 use Rattle.stl_reading.proofs.Unpacking.{held, all_read, none_read}

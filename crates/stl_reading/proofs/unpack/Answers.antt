@@ -1,5 +1,4 @@
 -- `unpack`: the four buffers one by one. Assumes nothing.
-use borrow.Author.Rules.{rules}
 use Rattle.buffers.proofs.Order.{same-four}
 use Rattle.stl_reading.proofs.unpack.Goals as goal
 

@@ -1,5 +1,4 @@
 -- `length_tested`: the tests in their order. Assumes nothing.
-use borrow.Author.Rules.{rules}
 use borrow.Author.Tests.{le-leb, lt-leb, eq-eqb, ne_eqb}
 use Rattle.stl_writing.proofs.length_tested.Goals as goal
 

@@ -1,5 +1,4 @@
 -- `put_facet`: four points and two zeros laid one after another. Assumes nothing.
-use borrow.Author.Rules.{rules}
 use native.Mathlib.Omega.{arith}
 use lib.ListN.{length-set}
 use Rattle.stl_writing.proofs.Putting.{facet-laid}

@@ -1,9 +1,8 @@
-use borrow.Author.Rules.{rules}
-use Prim.Native.Nat.{◌+◌, ◌*◌, ◌-◌}
+use Prim.Native.Nat.{◌+◌, ◌*◌}
 use native.Mathlib.Omega.{arith}
 use mathlib.Core.Path.{refl, sym, ap, ◌∙◌}
 use Rattle.buffers.specs.Laying.{laid}
-use Rattle.buffers.proofs.Laid.{laid-nothing, Laying, laying-more, laying-done}
+use Rattle.buffers.proofs.Laid.{laid-nothing, laying-more, laying-done}
 use Rattle.stl.specs.declared.Facet.{Facet}
 use Rattle.stl.specs.File.{facet_bytes}
 use Rattle.stl_writing.specs.Writing.{facet_from}

@@ -1,11 +1,5 @@
 -- `put_facets`: a turn lays one triangle more. Assumes nothing.
-use borrow.Author.Rules.{rules}
-use Prim.Native.Nat.{◌+◌, ◌*◌, ◌-◌}
-use native.Mathlib.Omega.{arith}
-use mathlib.Core.Path.{refl, sym, ap, ◌∙◌}
-use Rattle.buffers.specs.Laying.{laid}
-use Rattle.buffers.proofs.Laid.{laid-nothing, Laying, laying-more, laying-done}
-use Rattle.stl.specs.declared.Facet.{Facet}
+use Rattle.buffers.proofs.Laid.{Laying}
 use Rattle.stl.specs.File.{facet_bytes}
 use Rattle.stl_writing.specs.Writing.{facet_from}
 use Rattle.stl_writing.proofs.put_facets.Given as goal

@@ -1,5 +1,4 @@
 -- `put_four`: four stores are one list laid. Assumes nothing.
-use borrow.Author.Rules.{rules}
 use native.Mathlib.Omega.{arith}
 use lib.ListN.{length-set}
 use Rattle.stl_writing.proofs.Putting.{laid-four}

@@ -1,11 +1,10 @@
-use borrow.Author.Rules.{rules}
-use Prim.Native.Nat.{ℕ, ◌-◌}
+use Prim.Native.Nat.{ℕ}
 use native.Mathlib.Omega.{arith}
 use mathlib.Core.Path.{refl, sym, ap, ◌∙◌}
 use mathlib.Core.List.{List}
 use Rattle.patterns.specs.Patterns.{bytes_of}
 use Rattle.buffers.specs.Laying.{laid}
-use Rattle.buffers.proofs.Laid.{laid-nothing, Stored, stored_next, stored-all}
+use Rattle.buffers.proofs.Laid.{laid-nothing, stored_next, stored-all}
 use Rattle.stl_writing.proofs.Putting.{head-laid}
 use Rattle.stl_writing.proofs.put_head.Goals as goal
 

@@ -1,5 +1,4 @@
 -- `put_number`: the bytes of its pattern. Assumes nothing.
-use borrow.Author.Rules.{rules}
 use Rattle.stl_writing.proofs.put_number.Goals as goal
 
 pub returns : goal.returns

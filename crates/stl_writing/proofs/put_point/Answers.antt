@@ -1,5 +1,4 @@
 -- `put_point`: three numbers laid one after another. Assumes nothing.
-use borrow.Author.Rules.{rules}
 use Rattle.stl_writing.proofs.Putting.{point-laid}
 use Rattle.stl_writing.proofs.put_point.Goals as goal
 

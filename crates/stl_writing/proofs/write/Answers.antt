@@ -1,5 +1,5 @@
 -- `write`: the tests decide, and what is done is the mesh's file. Assumes nothing.
-use borrow.Author.Rules.{rules, Fits-under}
+use borrow.Author.Rules.{Fits-under}
 use mir.Syntax.{w32}
 use native.Mathlib.Omega.{arith}
 use mathlib.Core.Path.{sym, ◌∙◌}

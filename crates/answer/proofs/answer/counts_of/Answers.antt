@@ -1,5 +1,4 @@
 -- `counts_of`: its two cases. Assumes nothing.
-use borrow.Author.Rules.{rules}
 use Rattle.answer.proofs.answer.counts_of.Goals as goal
 
 pub returns-in-Done : goal.returns-in-Done

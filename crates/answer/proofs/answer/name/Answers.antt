@@ -1,5 +1,4 @@
 -- `name`: a refusal stays; else its one test. Assumes nothing.
-use borrow.Author.Rules.{rules}
 use borrow.Author.Tests.{lt-ltb, le-ltb}
 use Rattle.answer.proofs.answer.name.Goals as goal
 

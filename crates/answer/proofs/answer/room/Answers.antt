@@ -1,5 +1,4 @@
 -- `room`: a refusal stays; else what room_for answers. Assumes nothing.
-use borrow.Author.Rules.{rules}
 use Rattle.answer.proofs.answer.room.Goals as goal
 
 pub returns-in-Refused : goal.returns-in-Refused

@@ -1,5 +1,4 @@
 -- `room_for`: each test of a quotient is that of a product. Assumes nothing.
-use borrow.Author.Rules.{rules}
 use native.Mathlib.Omega.{arith}
 use borrow.Author.Tests.{le-leb, lt-leb}
 use Rattle.answer.proofs.Laws.{roomy, short}

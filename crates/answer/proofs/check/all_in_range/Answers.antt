@@ -1,11 +1,8 @@
 use borrow.Author.Rules.{rules}
 use mathlib.Core.Path.{refl, ap, ◌∙◌}
 use mathlib.Core.Bool.{Bool, ◌&&◌}
-use Prim.Native.Nat.{◌-◌}
-use lib.ListN.{length}
 use lib.Ieee.{nan}
-use Rattle.answer.specs.Checks.{in_range}
-use Rattle.answer.proofs.Laws.{Kept, kept_more, kept-all}
+use Rattle.answer.proofs.Laws.{kept_more, kept-all}
 use Rattle.answer.proofs.check.all_in_range.Goals as goal
 
 pub loop-i-init : goal.loop-i-init

@@ -1,12 +1,9 @@
 -- `all_in_range`: what passed so far and the rest decide. Assumes nothing.
-use borrow.Author.Rules.{rules}
-use mathlib.Core.Path.{refl, ap, ◌∙◌}
-use mathlib.Core.Bool.{Bool, ◌&&◌}
 use Prim.Native.Nat.{◌-◌}
 use lib.ListN.{length}
 use lib.Ieee.{nan}
 use Rattle.answer.specs.Checks.{in_range}
-use Rattle.answer.proofs.Laws.{Kept, kept_more, kept-all}
+use Rattle.answer.proofs.Laws.{Kept}
 use Rattle.answer.proofs.check.all_in_range.Given as goal
 
 abbrev pub invariant-loop-i : goal.invariant-loop-i

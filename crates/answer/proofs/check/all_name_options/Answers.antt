@@ -1,10 +1,7 @@
 use borrow.Author.Rules.{rules}
 use mathlib.Core.Path.{refl, ap, ◌∙◌}
 use mathlib.Core.Bool.{Bool, ◌&&◌}
-use Prim.Native.Nat.{◌-◌}
-use lib.ListN.{length}
-use Rattle.answer.specs.Checks.{names_option}
-use Rattle.answer.proofs.Laws.{Kept, kept_more, kept-all}
+use Rattle.answer.proofs.Laws.{kept_more, kept-all}
 use Rattle.answer.proofs.check.all_name_options.Goals as goal
 
 pub loop-i-init : goal.loop-i-init

@@ -1,11 +1,8 @@
 -- `all_name_options`: what passed so far and the rest decide. Assumes nothing.
-use borrow.Author.Rules.{rules}
-use mathlib.Core.Path.{refl, ap, ◌∙◌}
-use mathlib.Core.Bool.{Bool, ◌&&◌}
 use Prim.Native.Nat.{◌-◌}
 use lib.ListN.{length}
 use Rattle.answer.specs.Checks.{names_option}
-use Rattle.answer.proofs.Laws.{Kept, kept_more, kept-all}
+use Rattle.answer.proofs.Laws.{Kept}
 use Rattle.answer.proofs.check.all_name_options.Given as goal
 
 abbrev pub invariant-loop-i : goal.invariant-loop-i

@@ -1,5 +1,4 @@
 -- `in_range2`: one component after the other. Assumes nothing.
-use borrow.Author.Rules.{rules}
 use mathlib.Core.Path.{sym, ◌∙◌}
 use Rattle.answer.proofs.check.in_range2.Goals as goal
 

@@ -1,5 +1,4 @@
 -- `is_below`: every index of 16 bits is below a count that takes more. Assumes nothing.
-use borrow.Author.Rules.{rules}
 use native.Mathlib.Omega.{arith}
 use mathlib.Core.Path.{sym}
 use borrow.Author.Tests.{lt-ltb}

@@ -1,5 +1,4 @@
 -- `is_exactly`: whole entries are told by the remainder and the quotient. Assumes nothing.
-use borrow.Author.Rules.{rules}
 use native.Mathlib.Nat.{mul-zero}
 use Rattle.answer.proofs.Laws.{fills-by, fills-not}
 use native.Mathlib.Omega.{arith}

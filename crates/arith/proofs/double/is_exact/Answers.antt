@@ -1,5 +1,5 @@
 -- `is_exact`: the tests one by one. Assumes nothing.
-use Rattle.std.proofs.Common.{ℕ, ◌/◌, ◌%◌, ◌^◌, ◌≤◌, ◌∙◌, subst, inl, inr, ⊎_elim, rules, leb-true}
+use Rattle.std.proofs.Common.{ℕ, ◌/◌, ◌%◌, ◌^◌, ◌≤◌, ◌∙◌, subst, inl, inr, ⊎_elim, leb-true}
 use mathlib.Core.Bool.{false≢true}
 use Rattle.arith.proofs.double.is_exact.Goals as goal
 

@@ -1,5 +1,5 @@
 -- `last_of_addend`: zero alone has no last place. Assumes nothing.
-use Rattle.std.proofs.Common.{ℕ, ◌+◌, sym, ap, ◌∙◌, inl, inr, rules}
+use Rattle.std.proofs.Common.{ℕ, ◌+◌, sym, ap, ◌∙◌, inl, inr}
 use Rattle.arith.specs.Pattern.{exp_of}
 use Rattle.arith.proofs.double.last_of_addend.Goals as goal
 

@@ -1,5 +1,5 @@
 -- `narrowed`: its pattern is `narrow`, and never that of a NaN. Assumes nothing.
-use Rattle.std.proofs.Common.{◌≡◌, ℕ, ◌+◌, ◌-◌, ◌*◌, ◌^◌, cond, not, T, leb, sym, ap, ◌∙◌, subst, rules}
+use Rattle.std.proofs.Common.{◌≡◌, ℕ, ◌+◌, ◌-◌, ◌*◌, ◌^◌, cond, not, T, leb, sym, ap, ◌∙◌, subst}
 use lib.Ieee.{binary32, nan_bits, of_bits}
 use Rattle.arith.specs.Parts.{narrow}
 use Rattle.arith.proofs.Twice.{cut_off, narrow-no-nan}

@@ -1,5 +1,5 @@
 -- `narrows`: the difference that wraps tells both ends. Assumes nothing.
-use Rattle.std.proofs.Common.{arith, rules}
+use Rattle.std.proofs.Common.{arith}
 use mathlib.Core.Bool.{false≢true}
 use borrow.Author.Tests.{not-true, eqb-false}
 use Rattle.arith.proofs.double.narrows.Goals as goal

@@ -1,5 +1,5 @@
 -- `addend`: a magnitude in finer units. Assumes nothing.
-use Rattle.std.proofs.Common.{◌≡◌, ℕ, ◌+◌, ◌*◌, ◌^◌, ◌<◌, sym, ap, ◌∙◌, subst, ap₂, mul_assoc, arith, pow-add, rules}
+use Rattle.std.proofs.Common.{◌≡◌, ℕ, ◌+◌, ◌*◌, ◌^◌, ◌<◌, sym, ap, ◌∙◌, subst, ap₂, mul_assoc, arith, pow-add}
 use Rattle.arith.specs.Pattern.{sig_of, exp_of}
 use Rattle.arith.proofs.Values.{sig-lt}
 use Rattle.arith.proofs.multiply_add.addend.Goals as goal

@@ -1,5 +1,5 @@
 -- `apart`: the difference of the larger and the smaller. Assumes nothing.
-use Rattle.std.proofs.Common.{◌-◌, Bool, cond, sym, ap, rules, le-ltb, lt-ltb}
+use Rattle.std.proofs.Common.{◌-◌, Bool, cond, sym, ap, le-ltb, lt-ltb}
 use Rattle.arith.proofs.multiply_add.apart.Goals as goal
 
 pub returns-then-a-b : goal.returns-then-a-b

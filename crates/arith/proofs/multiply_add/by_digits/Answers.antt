@@ -1,5 +1,5 @@
 -- `by_digits`: exact where all three are finite, and else with nothing to round. Assumes nothing.
-use Rattle.std.proofs.Common.{◌≡◌, Bool, true, T, sym, ◌∙◌, subst, inl, inr, ⊎_elim, rules}
+use Rattle.std.proofs.Common.{◌≡◌, Bool, true, T, sym, ◌∙◌, subst, inl, inr}
 use Rattle.arith.proofs.Values.{addend-only, in-steps}
 use Rattle.arith.proofs.multiply_add.by_digits.Goals as goal
 use Rattle.arith.proofs.multiply_add.by_digits.Goals.{else-is_finite-via-then-is_finite+else-is_finite-2, else-is_finite-via-else-is_finite}

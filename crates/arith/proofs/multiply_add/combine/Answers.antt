@@ -1,5 +1,5 @@
 -- `combine`: the jammed operands have the sum of the exact ones. Assumes nothing.
-use Rattle.std.proofs.Common.{◌≡◌, ℕ, ◌+◌, ◌-◌, ◌*◌, ◌^◌, ◌≤◌, max, Bool, sym, ap, ◌∙◌, subst, ap₂, arith, pow_pos, rules}
+use Rattle.std.proofs.Common.{◌≡◌, ℕ, ◌+◌, ◌-◌, ◌*◌, ◌^◌, ◌≤◌, max, Bool, sym, ap, ◌∙◌, subst, ap₂, arith, pow_pos}
 use lib.Ieee.{binary32, sum, round}
 use Rattle.arith.specs.Digit.{jam}
 use Rattle.arith.specs.Parts.{Summed, sum_sign, sum_size}

@@ -1,5 +1,5 @@
 -- `exact`: three finite values by their patterns. Assumes nothing.
-use Rattle.std.proofs.Common.{◌*◌, ◌^◌, Bool, T, sym, ap, ◌∙◌, subst, ap₂, rules}
+use Rattle.std.proofs.Common.{◌*◌, ◌^◌, Bool, T, sym, ap, ◌∙◌, subst, ap₂}
 use lib.Ieee.{binary32, sum, unlike}
 use Rattle.arith.proofs.Values.{no_nan, sign, exactly}
 use Rattle.arith.proofs.multiply_add.exact.Goals as goal

@@ -1,5 +1,5 @@
 -- `factors`: the product of the significands, at the sum of the exponents. Assumes nothing.
-use Rattle.std.proofs.Common.{◌≡◌, ℕ, ◌+◌, ◌-◌, ◌*◌, ◌^◌, ◌<◌, ◌≤◌, sym, ap, ◌∙◌, subst, ap₂, lt_of_le_of_lt, mul_assoc, mul-le-mul, arith, lit<, pow-add, rules}
+use Rattle.std.proofs.Common.{◌≡◌, ℕ, ◌+◌, ◌-◌, ◌*◌, ◌^◌, ◌<◌, ◌≤◌, sym, ap, ◌∙◌, subst, ap₂, lt_of_le_of_lt, mul_assoc, mul-le-mul, arith, lit<, pow-add}
 use native.Mathlib.Nat.{mul-mul-mul_comm}
 use Rattle.arith.specs.Pattern.{sig_of, exp_of}
 use Rattle.arith.proofs.Values.{sig-lt}

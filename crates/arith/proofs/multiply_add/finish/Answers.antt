@@ -1,5 +1,5 @@
 -- `finish`: the digits of the sum, moved up, rounded and packed. Assumes nothing.
-use Rattle.std.proofs.Common.{◌≡◌, ℕ, ◌+◌, ◌-◌, ◌*◌, ◌^◌, ◌≤◌, sym, ap, ◌∙◌, subst, ap₂, inl, inr, arith, rules}
+use Rattle.std.proofs.Common.{◌≡◌, ℕ, ◌+◌, ◌-◌, ◌*◌, ◌^◌, ◌≤◌, sym, ap, ◌∙◌, subst, ap₂, inl, inr, arith}
 use lib.Ieee.{binary32, round, of_bits}
 use lib.Ieee.Nearest.{closest}
 use Rattle.arith.specs.Pattern.{packed}

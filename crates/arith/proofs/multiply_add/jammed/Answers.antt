@@ -1,5 +1,5 @@
 -- `jammed`: shifted out and back, a number is the same exactly where nothing is cut. Assumes nothing.
-use Rattle.std.proofs.Common.{◌≡◌, ℕ, ◌+◌, ◌*◌, ◌/◌, ◌^◌, ◌≤◌, ap, ◌∙◌, arith, rules}
+use Rattle.std.proofs.Common.{◌≡◌, ℕ, ◌+◌, ◌*◌, ◌/◌, ◌^◌, ◌≤◌, ap, ◌∙◌, arith}
 use Rattle.arith.specs.Digit.{jam}
 use Rattle.arith.proofs.Jamming.{jam-min, jam-even, jam-odd, twice-high}
 use Rattle.arith.proofs.multiply_add.jammed.Goals as goal

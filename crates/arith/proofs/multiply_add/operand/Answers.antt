@@ -1,5 +1,5 @@
 -- `operand`: moved up by n, which is enough for the digits of normal numbers, or by as much as its zeros say. Assumes nothing.
-use Rattle.std.proofs.Common.{◌≡◌, ℕ, zero, suc, ◌+◌, ◌-◌, ◌*◌, ◌%◌, ◌^◌, ◌<◌, ◌≤◌, ◌⊎◌, sym, refl, ap, ◌∙◌, subst, inl, inr, ⊎_elim, lt_of_lt_of_le, lt_irrefl, mod-eq_of_lt, mul_assoc, zero-mul, arith, lit<, lit≤, pow-add, shl_lt, rules}
+use Rattle.std.proofs.Common.{◌≡◌, ℕ, zero, suc, ◌+◌, ◌-◌, ◌*◌, ◌%◌, ◌^◌, ◌<◌, ◌≤◌, ◌⊎◌, sym, refl, ap, ◌∙◌, subst, inl, inr, ⊎_elim, lt_of_lt_of_le, lt_irrefl, mod-eq_of_lt, mul_assoc, zero-mul, arith, lit<, lit≤, pow-add, shl_lt}
 use native.Mathlib.Nat.{mul-mod_left}
 use Rattle.arith.specs.Parts.{Ready, exp_unless_zero}
 use Rattle.arith.proofs.Placing.{zeros_of}

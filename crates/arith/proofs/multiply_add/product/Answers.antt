@@ -1,5 +1,5 @@
 -- `product`: two numbers of 24 digits have a product of 48. Assumes nothing.
-use Rattle.std.proofs.Common.{lt_of_le_of_lt, le_of_lt, mul-le-mul, lit<, rules}
+use Rattle.std.proofs.Common.{lt_of_le_of_lt, le_of_lt, mul-le-mul, lit<}
 use Rattle.arith.proofs.multiply_add.product.Goals as goal
 
 pub overflow_mul-result : goal.overflow_mul-result

@@ -1,5 +1,5 @@
 -- `size_of_sum`: the sum of like signs, and the gap of unlike ones. Assumes nothing.
-use Rattle.std.proofs.Common.{◌+◌, ◌-◌, Bool, cond, ltb, sym, ap, ◌∙◌, rules}
+use Rattle.std.proofs.Common.{◌+◌, ◌-◌, Bool, cond, ltb, sym, ap, ◌∙◌}
 use Rattle.arith.proofs.multiply_add.size_of_sum.Goals as goal
 
 pub returns-then-s-t : goal.returns-then-s-t

@@ -1,5 +1,5 @@
 -- `nearest`: what is added carries into the quotient exactly where the remainder asks for it. Assumes nothing.
-use Rattle.std.proofs.Common.{◌≡◌, ℕ, ◌+◌, ◌-◌, ◌*◌, ◌/◌, ◌%◌, ◌^◌, ◌<◌, ◌≤◌, sym, refl, ap, ◌∙◌, arith, pow_pos, pow_mono, rules}
+use Rattle.std.proofs.Common.{◌≡◌, ℕ, ◌+◌, ◌-◌, ◌*◌, ◌/◌, ◌%◌, ◌^◌, ◌<◌, ◌≤◌, sym, refl, ap, ◌∙◌, arith, pow_pos, pow_mono}
 use lib.Ieee.Nearest.{closest}
 use Rattle.arith.proofs.Placing.{near-far, half-word, half_twice, halved}
 use Rattle.arith.proofs.pattern.nearest.Goals as goal

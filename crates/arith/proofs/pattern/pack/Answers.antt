@@ -1,5 +1,5 @@
 -- `pack`: its pattern is `packed`, and never that of a NaN. Assumes nothing.
-use Rattle.std.proofs.Common.{◌≡◌, ℕ, ◌+◌, ◌*◌, ◌^◌, min, cond, not, T, sym, ap, ◌∙◌, subst, rules}
+use Rattle.std.proofs.Common.{◌≡◌, ℕ, ◌+◌, ◌*◌, ◌^◌, min, cond, not, T, sym, ap, ◌∙◌, subst}
 use lib.Ieee.{binary32, nan_bits, of_bits}
 use Rattle.arith.specs.Pattern.{packed}
 use Rattle.arith.proofs.Packing.{packed-no-nan}

@@ -1,5 +1,5 @@
 -- `significand`: a field of 0 has no leading digit. Assumes nothing.
-use Rattle.std.proofs.Common.{◌≡◌, ℕ, zero, suc, ◌+◌, ◌/◌, ◌%◌, ◌^◌, sym, refl, ap, ◌∙◌, add_comm, zero-add, rules}
+use Rattle.std.proofs.Common.{◌≡◌, ℕ, zero, suc, ◌+◌, ◌/◌, ◌%◌, ◌^◌, sym, refl, ap, ◌∙◌, add_comm, zero-add}
 use Rattle.arith.specs.Pattern.{lead}
 use Rattle.arith.proofs.pattern.significand.Goals as goal
 

@@ -1,5 +1,5 @@
 -- `with_sign`: the sign is the highest of 32 digits. Assumes nothing.
-use Rattle.std.proofs.Common.{◌+◌, ◌^◌, Bool, cond, sym, ap, ◌∙◌, zero-add, rules}
+use Rattle.std.proofs.Common.{◌+◌, ◌^◌, Bool, cond, sym, ap, ◌∙◌, zero-add}
 use Rattle.arith.proofs.pattern.with_sign.Goals as goal
 
 pub returns-then-neg : goal.returns-then-neg

@@ -1,5 +1,5 @@
 -- `above_zero`: the root of the pattern's digits. Assumes nothing.
-use Rattle.std.proofs.Common.{ap, ◌∙◌, rules}
+use Rattle.std.proofs.Common.{ap, ◌∙◌}
 use Rattle.arith.specs.Root.{root_of}
 use Rattle.arith.proofs.square_root.above_zero.Goals as goal
 

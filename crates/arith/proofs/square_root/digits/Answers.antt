@@ -1,5 +1,5 @@
 -- `digits`: a pattern's significand and exponent, in finer units, and a subnormal one moved up. Assumes nothing.
-use Rattle.std.proofs.Common.{◌≡◌, ℕ, zero, suc, ◌+◌, ◌*◌, ◌/◌, ◌%◌, ◌^◌, ◌<◌, ◌≤◌, sym, ap, ◌∙◌, subst, ap₂, mul_assoc, arith, rules}
+use Rattle.std.proofs.Common.{◌≡◌, ℕ, zero, suc, ◌+◌, ◌*◌, ◌/◌, ◌%◌, ◌^◌, ◌<◌, ◌≤◌, sym, ap, ◌∙◌, subst, ap₂, mul_assoc, arith}
 use Rattle.arith.specs.Pattern.{lead, sig_of, exp_of}
 use Rattle.arith.proofs.Values.{sig-lt}
 use Rattle.arith.proofs.WholeRoots.{finer}

@@ -1,5 +1,5 @@
 -- `guess`: whatever the tables hold, no step of the cubic leaves 64 digits. Assumes nothing.
-use Rattle.std.proofs.Common.{ℕ, ◌+◌, ◌-◌, ◌*◌, ◌/◌, ◌%◌, ◌^◌, ◌≤◌, mul-le-mul, arith, rules}
+use Rattle.std.proofs.Common.{ℕ, ◌+◌, ◌-◌, ◌*◌, ◌/◌, ◌%◌, ◌^◌, ◌≤◌, mul-le-mul, arith}
 use Rattle.arith.proofs.square_root.guess.Goals as goal
 use Rattle.arith.proofs.square_root.guess.Goals.{After-bends-second}
 

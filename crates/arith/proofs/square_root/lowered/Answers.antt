@@ -1,4 +1,4 @@
-use Rattle.std.proofs.Common.{ℕ, zero, suc, ◌*◌, ◌^◌, ◌<◌, ◌≤◌, mul-le-mul, arith, rules}
+use Rattle.std.proofs.Common.{ℕ, zero, suc, ◌*◌, ◌<◌, ◌≤◌, mul-le-mul, arith}
 use Rattle.arith.proofs.square_root.lowered.Goals as goal
 
 some : (a q : ℕ) → a < q * q → 1 ≤ q

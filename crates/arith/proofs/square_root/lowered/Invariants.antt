@@ -1,5 +1,5 @@
 -- `lowered`: a step down is taken only from a square above a, so never from 0. Assumes nothing.
-use Rattle.std.proofs.Common.{ℕ, zero, suc, ◌*◌, ◌^◌, ◌<◌, ◌≤◌, mul-le-mul, arith, rules}
+use Rattle.std.proofs.Common.{◌^◌, ◌≤◌}
 use Rattle.arith.proofs.square_root.lowered.Given as goal
 
 abbrev pub invariant-loop-q : goal.invariant-loop-q

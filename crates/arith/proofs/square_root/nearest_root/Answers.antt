@@ -1,5 +1,5 @@
 -- `nearest_root`: the guess where it is right, and else what the steps find. Assumes nothing.
-use Rattle.std.proofs.Common.{◌≡◌, ℕ, ◌+◌, ◌-◌, ◌*◌, ◌%◌, ◌^◌, ◌<◌, ◌≤◌, subst, le_trans, mod-eq_of_lt, mul-le-mul, mul-pos, arith, lit≤, pow_pos, pow_mono, rules}
+use Rattle.std.proofs.Common.{◌≡◌, ℕ, ◌+◌, ◌-◌, ◌*◌, ◌%◌, ◌^◌, ◌<◌, ◌≤◌, subst, le_trans, mod-eq_of_lt, mul-le-mul, mul-pos, arith, lit≤, pow_pos, pow_mono}
 use Rattle.arith.specs.Parts.{NearestRoot}
 use Rattle.arith.proofs.WholeRoots.{times-next}
 use Rattle.arith.proofs.square_root.nearest_root.Goals as goal

@@ -1,5 +1,5 @@
 -- `of_digits`: half the exponent, and the nearest root as the digits. Assumes nothing.
-use Rattle.std.proofs.Common.{◌≡◌, ℕ, ◌+◌, ◌*◌, ◌/◌, ◌%◌, ◌^◌, ◌<◌, false, not, T, sym, refl, ap, ◌∙◌, subst, arith, rules}
+use Rattle.std.proofs.Common.{◌≡◌, ℕ, ◌+◌, ◌*◌, ◌/◌, ◌%◌, ◌^◌, ◌<◌, false, not, T, sym, refl, ap, ◌∙◌, subst, arith}
 use lib.Ieee.{binary32, of_bits, nan_bits}
 use Rattle.arith.specs.Pattern.{packed}
 use Rattle.arith.specs.Parts.{NearestRoot}

@@ -1,4 +1,4 @@
-use Rattle.std.proofs.Common.{ℕ, ◌-◌, ◌*◌, ◌^◌, ◌<◌, ◌≤◌, mul-le-mul, lt_of_not-le, arith, rules}
+use Rattle.std.proofs.Common.{ℕ, ◌*◌, ◌^◌, ◌<◌, ◌≤◌, mul-le-mul, lt_of_not-le, arith}
 use Rattle.arith.proofs.WholeRoots.{square-suc}
 use Rattle.arith.proofs.square_root.raised.Goals as goal
 

@@ -1,6 +1,5 @@
 -- `raised`: a step up is taken only where the next square is no more than a. Assumes nothing.
-use Rattle.std.proofs.Common.{ℕ, ◌-◌, ◌*◌, ◌^◌, ◌<◌, ◌≤◌, mul-le-mul, lt_of_not-le, arith, rules}
-use Rattle.arith.proofs.WholeRoots.{square-suc}
+use Rattle.std.proofs.Common.{◌-◌, ◌*◌, ◌^◌, ◌≤◌}
 use Rattle.arith.proofs.square_root.raised.Given as goal
 
 abbrev pub invariant-loop-q : goal.invariant-loop-q

@@ -1,5 +1,5 @@
 -- `stepped`: the whole part of the root, and one more where the rest is above it. Assumes nothing.
-use Rattle.std.proofs.Common.{ℕ, zero, suc, ◌+◌, ◌-◌, ◌*◌, ◌<◌, ◌≤◌, arith, rules}
+use Rattle.std.proofs.Common.{ℕ, zero, suc, ◌+◌, ◌-◌, ◌*◌, ◌<◌, ◌≤◌, arith}
 use Rattle.arith.specs.Parts.{WholeRoot, NearestRoot}
 use Rattle.arith.proofs.WholeRoots.{square-suc, times-next}
 use Rattle.arith.proofs.square_root.stepped.Goals as goal

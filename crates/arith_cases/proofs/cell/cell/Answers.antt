@@ -22,17 +22,17 @@ short : (b i : ℕ) → b ≤ 16 → i ≤ 8 → b ^ i ≤ 2 ^ 32
 short b i g h = le_trans (pow-le-pow_left g i) (pow-le-pow_right (omega arith) h)
 
 -- the value after a turn, where the digit is one of the base
-after : (c : Else-d-base invariant-loop decreases-loop) → c.before.before.before.before.loop.value * c.before.before.before.before.before.before.before.before.before.args.base + c.before.digit_value.result < c.before.before.before.before.before.before.before.before.before.args.base ^ (c.before.before.before.before.loop.i + 1)
-after c = longer _ _ _ _ c.before.before.before.before.loop.invariant.1 (omega arith)
+after : (c : Else-d-base) → c.loop-i.value * c.args.base + c.digit_value-d.result < c.args.base ^ (c.loop-i.i + 1)
+after c = longer _ _ _ _ c.loop-i.invariant.1 (omega arith)
 
-room : (c : Else-d-base invariant-loop decreases-loop) → c.before.before.before.before.before.before.before.before.before.args.base ^ (c.before.before.before.before.loop.i + 1) ≤ 2 ^ 32
-room c = short _ (c.before.before.before.before.loop.i + 1) (omega arith) (omega arith)
+room : (c : Else-d-base) → c.args.base ^ (c.loop-i.i + 1) ≤ 2 ^ 32
+room c = short _ (c.loop-i.i + 1) (omega arith) (omega arith)
 
 -- all eight digits
-eight : (c : After-loop-i invariant-loop decreases-loop) → c.before.loop.value < c.before.before.before.before.before.before.args.base ^ 8
+eight : (c : After-loop-i) → c.loop-i.value < c.args.base ^ 8
 eight c =
-    let all : c.before.loop.i ≡ 8 = omega arith in
-    subst (λ (n : ℕ). c.before.loop.value < c.before.before.before.before.before.before.args.base ^ n) all c.before.loop.invariant.1
+    let all : c.loop-i.i ≡ 8 = omega arith in
+    subst (λ (n : ℕ). c.loop-i.value < c.args.base ^ n) all c.loop-i.invariant.1
 
 pub loop-i-init : goal.loop-i-init
 loop-i-init c = (search rules, empty _)

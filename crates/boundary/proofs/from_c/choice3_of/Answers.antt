@@ -1,5 +1,4 @@
 -- `choice3_of`: by what its bool says. Assumes nothing.
-use borrow.Author.Rules.{rules}
 use Rattle.boundary.proofs.from_c.choice3_of.Goals as goal
 
 pub returns-then-c : goal.returns-then-c

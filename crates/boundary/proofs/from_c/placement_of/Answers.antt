@@ -1,5 +1,4 @@
 -- `placement_of`: field by field. Assumes nothing.
-use borrow.Author.Rules.{rules}
 use Rattle.boundary.proofs.from_c.placement_of.Goals as goal
 
 pub returns : goal.returns

@@ -1,5 +1,4 @@
 -- `turn_of`: by what its bool says. Assumes nothing.
-use borrow.Author.Rules.{rules}
 use Rattle.boundary.proofs.from_c.turn_of.Goals as goal
 
 pub returns-then-t : goal.returns-then-t

@@ -1,5 +1,4 @@
 -- `uv_options_of`: field by field. Assumes nothing.
-use borrow.Author.Rules.{rules}
 use Rattle.boundary.proofs.from_c.uv_options_of.Goals as goal
 
 pub returns : goal.returns

@@ -1,5 +1,4 @@
 -- `cheap_column_of`: field by field. Assumes nothing.
-use borrow.Author.Rules.{rules}
 use Rattle.boundary.proofs.jobs.cheap_column_of.Goals as goal
 
 pub returns : goal.returns

@@ -1,5 +1,4 @@
 -- `choice_of`: by what its bool says. Assumes nothing.
-use borrow.Author.Rules.{rules}
 use Rattle.boundary.proofs.jobs.choice_of.Goals as goal
 
 pub returns-then-c : goal.returns-then-c

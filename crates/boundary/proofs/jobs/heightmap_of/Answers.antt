@@ -1,5 +1,4 @@
 -- `heightmap_of`: field by field. Assumes nothing.
-use borrow.Author.Rules.{rules}
 use Rattle.boundary.proofs.jobs.heightmap_of.Goals as goal
 
 pub returns : goal.returns

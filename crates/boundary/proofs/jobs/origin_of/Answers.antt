@@ -1,5 +1,4 @@
 -- `origin_of`: by what its bool says. Assumes nothing.
-use borrow.Author.Rules.{rules}
 use Rattle.boundary.proofs.jobs.origin_of.Goals as goal
 
 pub returns-then-o : goal.returns-then-o

@@ -1,5 +1,4 @@
 -- `plane_of`: field by field. Assumes nothing.
-use borrow.Author.Rules.{rules}
 use Rattle.boundary.proofs.jobs.plane_of.Goals as goal
 
 pub returns : goal.returns

@@ -1,5 +1,4 @@
 -- `side_of`: the choice that it calls. Assumes nothing.
-use borrow.Author.Rules.{rules}
 use Rattle.boundary.proofs.jobs.side_of.Goals as goal
 
 pub returns : goal.returns

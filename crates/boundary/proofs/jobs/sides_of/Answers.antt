@@ -1,5 +1,4 @@
 -- `sides_of`: side by side. Assumes nothing.
-use borrow.Author.Rules.{rules}
 use Rattle.boundary.proofs.jobs.sides_of.Goals as goal
 
 pub returns : goal.returns

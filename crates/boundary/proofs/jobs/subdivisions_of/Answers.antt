@@ -1,5 +1,4 @@
 -- `subdivisions_of`: by what its bool says. Assumes nothing.
-use borrow.Author.Rules.{rules}
 use Rattle.boundary.proofs.jobs.subdivisions_of.Goals as goal
 
 pub returns-then-s : goal.returns-then-s

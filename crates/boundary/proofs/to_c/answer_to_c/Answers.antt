@@ -1,5 +1,4 @@
 -- `answer_to_c`: the number, the counts and the need. Assumes nothing.
-use borrow.Author.Rules.{rules}
 use Rattle.boundary.proofs.to_c.answer_to_c.Goals as goal
 
 pub returns : goal.returns

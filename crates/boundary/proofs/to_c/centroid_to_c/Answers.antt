@@ -1,5 +1,4 @@
 -- `centroid_to_c`: the answer and the value. Assumes nothing.
-use borrow.Author.Rules.{rules}
 use Rattle.boundary.proofs.to_c.centroid_to_c.Goals as goal
 
 pub returns : goal.returns

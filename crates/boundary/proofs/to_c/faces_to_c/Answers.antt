@@ -1,5 +1,4 @@
 -- `faces_to_c`: the answer and the number of faces. Assumes nothing.
-use borrow.Author.Rules.{rules}
 use Rattle.boundary.proofs.to_c.faces_to_c.Goals as goal
 
 pub returns : goal.returns

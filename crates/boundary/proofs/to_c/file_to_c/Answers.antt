@@ -1,5 +1,4 @@
 -- `file_to_c`: the answer and the length of the file. Assumes nothing.
-use borrow.Author.Rules.{rules}
 use Rattle.boundary.proofs.to_c.file_to_c.Goals as goal
 
 pub returns : goal.returns

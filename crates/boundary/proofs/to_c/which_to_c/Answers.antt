@@ -1,5 +1,4 @@
 -- `which_to_c`: the answer, and the face. Assumes nothing.
-use borrow.Author.Rules.{rules}
 use Rattle.boundary.proofs.to_c.which_to_c.Goals as goal
 
 pub returns-in-Refused : goal.returns-in-Refused

@@ -1,5 +1,4 @@
 -- `why_to_c`: the answer, and the reason with its values. Assumes nothing.
-use borrow.Author.Rules.{rules}
 use Rattle.boundary.proofs.to_c.why_to_c.Goals as goal
 
 pub returns-in-Refused : goal.returns-in-Refused

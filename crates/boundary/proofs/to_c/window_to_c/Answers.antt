@@ -1,5 +1,4 @@
 -- `window_to_c`: the answer and the places. Assumes nothing.
-use borrow.Author.Rules.{rules}
 use Rattle.boundary.proofs.to_c.window_to_c.Goals as goal
 
 pub returns : goal.returns

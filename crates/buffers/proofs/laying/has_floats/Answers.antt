@@ -1,5 +1,4 @@
 -- `has_floats`: each test is its part of the definition. Assumes nothing.
-use borrow.Author.Rules.{rules}
 use borrow.Author.Tests.{le-leb, lt-leb}
 use Rattle.buffers.proofs.laying.has_floats.Goals as goal
 

@@ -1,5 +1,4 @@
 -- `has_room`: the limit, then the indices, then the floats. Assumes nothing.
-use borrow.Author.Rules.{rules}
 use native.Mathlib.Omega.{arith}
 use Rattle.buffers.proofs.Rooms.{past-limit, past-indices, floats-decide}
 use Rattle.buffers.proofs.laying.has_room.Goals as goal

@@ -1,5 +1,4 @@
 -- `lay_plain`: the test says whether there is room. Assumes nothing.
-use borrow.Author.Rules.{rules}
 use native.Mathlib.Omega.{arith}
 use mathlib.Core.Path.{refl, sym, ◌∙◌}
 use Rattle.buffers.specs.Laying.{four}

@@ -1,5 +1,4 @@
 -- `lay_quad`: the size is the counts, and the test says whether there is room. Assumes nothing.
-use borrow.Author.Rules.{rules}
 use mathlib.Core.Path.{sym, ◌∙◌}
 use Rattle.buffers.specs.Laying.{four}
 use Rattle.buffers.specs.Faces.{quad_mesh, standing}

@@ -1,5 +1,4 @@
 -- `lay_wall`: the quad with its inset, laid. Assumes nothing.
-use borrow.Author.Rules.{rules}
 use Rattle.buffers.proofs.laying.lay_wall.Goals as goal
 
 pub returns : goal.returns

@@ -1,5 +1,4 @@
 -- `plain_triangle`: of a quad, or of a hexagon. Assumes nothing.
-use borrow.Author.Rules.{rules}
 use mathlib.Core.Path.{sym, ap, ◌∙◌}
 use mathlib.Core.Bool.{Bool, cond}
 use lib.ListN.{get_or}

@@ -1,5 +1,4 @@
 -- `put2`: two stores are one list laid. Assumes nothing.
-use borrow.Author.Rules.{rules}
 use native.Mathlib.Omega.{arith}
 use lib.ListN.{length-set}
 use Rattle.buffers.proofs.Laid.{laid-two}

@@ -1,5 +1,4 @@
 -- `put_corners`: three stores are one list laid; no sum is past 16 bits. Assumes nothing.
-use borrow.Author.Rules.{rules}
 use native.Mathlib.Omega.{arith}
 use lib.ListN.{length-set}
 use Rattle.buffers.proofs.Laid.{laid-three}

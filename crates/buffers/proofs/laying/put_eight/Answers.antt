@@ -1,12 +1,6 @@
-use borrow.Author.Rules.{rules}
-use Prim.Native.Nat.{◌-◌}
 use native.Mathlib.Omega.{arith}
 use mathlib.Core.Path.{refl, sym}
-use Rattle.buffers.proofs.Laid.{laid-nothing, Laying, laying-more, laying-done}
-use Rattle.placement.specs.Placing.{stood}
-use Rattle.buffers.specs.Laying.{three}
-use lib.ListN.{get_or}
-use Rattle.face.specs.Vec.{off3}
+use Rattle.buffers.proofs.Laid.{laid-nothing, laying-more, laying-done}
 use Rattle.buffers.proofs.laying.put_eight.Goals as goal
 
 pub loop-k-init : goal.loop-k-init

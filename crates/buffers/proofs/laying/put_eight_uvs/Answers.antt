@@ -1,11 +1,6 @@
-use borrow.Author.Rules.{rules}
-use Prim.Native.Nat.{◌-◌}
 use native.Mathlib.Omega.{arith}
 use mathlib.Core.Path.{refl, sym}
-use Rattle.buffers.proofs.Laid.{laid-nothing, Laying, laying-more, laying-done}
-use Rattle.buffers.specs.Laying.{two}
-use lib.ListN.{get_or}
-use Rattle.face.specs.Vec.{off2}
+use Rattle.buffers.proofs.Laid.{laid-nothing, laying-more, laying-done}
 use Rattle.buffers.proofs.laying.put_eight_uvs.Goals as goal
 
 pub loop-k-init : goal.loop-k-init

@@ -1,5 +1,4 @@
 -- `put_hexagon`: the four buffers one by one, each by its law. Assumes nothing.
-use borrow.Author.Rules.{rules}
 use native.Mathlib.Omega.{arith}
 use mathlib.Core.Path.{sym, ◌∙◌}
 use Rattle.face.specs.Triangles.{hexagon_triangles}

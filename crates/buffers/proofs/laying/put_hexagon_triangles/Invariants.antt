@@ -1,14 +1,8 @@
 -- `put_hexagon_triangles`: a turn lays one triangle, whose vertices are the face's own. Assumes nothing.
-use borrow.Author.Rules.{rules}
-use Prim.Native.Nat.{◌-◌, ◌+◌, ◌≤◌}
-use native.Mathlib.Omega.{arith}
-use mathlib.Core.Path.{refl, sym}
 use lib.ListN.{get_or}
 use Rattle.face.specs.Triangles.{inset_triangles, hexagon_triangles, no_triangle}
-use Rattle.face.proofs.Laws.{hexagon-indices-below}
 use Rattle.buffers.specs.Laying.{corners}
-use Rattle.buffers.proofs.Laid.{laid-nothing, Laying, laying-more, laying-done}
-use Rattle.buffers.proofs.Rooms.{numbered}
+use Rattle.buffers.proofs.Laid.{Laying}
 use Rattle.buffers.proofs.laying.put_hexagon_triangles.Given as goal
 
 abbrev pub invariant-loop-k : goal.invariant-loop-k

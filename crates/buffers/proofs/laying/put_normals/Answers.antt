@@ -1,9 +1,6 @@
-use borrow.Author.Rules.{rules}
-use Prim.Native.Nat.{◌-◌}
 use native.Mathlib.Omega.{arith}
 use mathlib.Core.Path.{refl, sym}
-use Rattle.buffers.proofs.Laid.{laid-nothing, Laying, laying-more, laying-done}
-use Rattle.buffers.specs.Laying.{three}
+use Rattle.buffers.proofs.Laid.{laid-nothing, laying-more, laying-done}
 use Rattle.buffers.proofs.laying.put_normals.Goals as goal
 
 pub loop-k-init : goal.loop-k-init

@@ -1,9 +1,5 @@
 -- `put_normals`: a turn lays the normal once more. Assumes nothing.
-use borrow.Author.Rules.{rules}
-use Prim.Native.Nat.{◌-◌}
-use native.Mathlib.Omega.{arith}
-use mathlib.Core.Path.{refl, sym}
-use Rattle.buffers.proofs.Laid.{laid-nothing, Laying, laying-more, laying-done}
+use Rattle.buffers.proofs.Laid.{Laying}
 use Rattle.buffers.specs.Laying.{three}
 use Rattle.buffers.proofs.laying.put_normals.Given as goal
 

@@ -1,13 +1,8 @@
 use borrow.Author.Rules.{rules}
-use Prim.Native.Nat.{◌-◌, ◌+◌, ◌≤◌}
 use native.Mathlib.Omega.{arith}
 use mathlib.Core.Path.{refl, sym}
-use lib.ListN.{get_or}
-use Rattle.face.specs.Triangles.{no_triangle}
-use Rattle.buffers.specs.Plain.{plain_triangles}
 use Rattle.buffers.proofs.PlainFaces.{plain-below}
-use Rattle.buffers.specs.Laying.{corners}
-use Rattle.buffers.proofs.Laid.{laid-nothing, Laying, laying-more, laying-done}
+use Rattle.buffers.proofs.Laid.{laid-nothing, laying-more, laying-done}
 use Rattle.buffers.proofs.Rooms.{numbered}
 use Rattle.buffers.proofs.laying.put_plain_triangles.Goals as goal
 

@@ -1,9 +1,5 @@
 -- `put_six_uvs`: a turn lays one uv. Assumes nothing.
-use borrow.Author.Rules.{rules}
-use Prim.Native.Nat.{◌-◌}
-use native.Mathlib.Omega.{arith}
-use mathlib.Core.Path.{refl, sym}
-use Rattle.buffers.proofs.Laid.{laid-nothing, Laying, laying-more, laying-done}
+use Rattle.buffers.proofs.Laid.{Laying}
 use Rattle.buffers.specs.Laying.{two}
 use lib.ListN.{get_or}
 use Rattle.face.specs.Vec.{off2}

@@ -1,5 +1,4 @@
 -- `outer_uvs`: the first six. Assumes nothing.
-use borrow.Author.Rules.{rules}
 use mathlib.Core.Path.{refl}
 use Rattle.buffers.proofs.plain.outer_uvs.Goals as goal
 

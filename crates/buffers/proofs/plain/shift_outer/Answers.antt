@@ -1,5 +1,4 @@
 -- `shift_outer`: the first six. Assumes nothing.
-use borrow.Author.Rules.{rules}
 use Rattle.buffers.proofs.plain.shift_outer.Goals as goal
 
 pub returns : goal.returns

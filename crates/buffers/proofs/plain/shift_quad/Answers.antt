@@ -1,5 +1,4 @@
 -- `shift_quad`: its parts. Assumes nothing.
-use borrow.Author.Rules.{rules}
 use Rattle.buffers.proofs.plain.shift_quad.Goals as goal
 
 pub returns : goal.returns

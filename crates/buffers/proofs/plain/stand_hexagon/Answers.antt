@@ -1,5 +1,4 @@
 -- `stand_hexagon`: its parts. Assumes nothing.
-use borrow.Author.Rules.{rules}
 use Rattle.buffers.proofs.plain.stand_hexagon.Goals as goal
 
 pub returns : goal.returns

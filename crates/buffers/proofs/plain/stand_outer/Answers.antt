@@ -1,5 +1,4 @@
 -- `stand_outer`: what is only moved stands so. Assumes nothing.
-use borrow.Author.Rules.{rules}
 use mathlib.Core.Path.{sym, ◌∙◌}
 use Rattle.buffers.proofs.PlainFaces.{points-shifted}
 use Rattle.buffers.proofs.plain.stand_outer.Goals as goal

@@ -1,5 +1,4 @@
 -- `stand_quad`: what is only moved stands so. Assumes nothing.
-use borrow.Author.Rules.{rules}
 use mathlib.Core.Path.{sym, ◌∙◌}
 use Rattle.buffers.proofs.PlainFaces.{quad-shifted}
 use Rattle.buffers.proofs.plain.stand_quad.Goals as goal

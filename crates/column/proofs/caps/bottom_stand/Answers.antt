@@ -1,5 +1,4 @@
 -- `bottom_stand`: moved by zero and turned by half, then placed. Assumes nothing.
-use Rattle.std.proofs.Common.{rules}
 use Rattle.column.proofs.caps.bottom_stand.Goals as goal
 
 pub returns : goal.returns

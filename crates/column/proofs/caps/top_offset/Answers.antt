@@ -1,5 +1,4 @@
 -- `top_offset`: added to zero. Assumes nothing.
-use Rattle.std.proofs.Common.{rules}
 use Rattle.column.proofs.caps.top_offset.Goals as goal
 
 pub returns : goal.returns

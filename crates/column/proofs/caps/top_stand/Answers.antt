@@ -1,5 +1,4 @@
 -- `top_stand`: moved up first, then placed. Assumes nothing.
-use Rattle.std.proofs.Common.{rules}
 use Rattle.column.proofs.caps.top_stand.Goals as goal
 
 pub returns : goal.returns

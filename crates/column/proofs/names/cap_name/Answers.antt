@@ -1,5 +1,5 @@
 -- `cap_name`: by the cases of the choice. Assumes nothing.
-use Rattle.std.proofs.Common.{rules, ne_eqb}
+use Rattle.std.proofs.Common.{ne_eqb}
 use Rattle.column.proofs.names.cap_name.Goals as goal
 
 pub returns-then-left-eq0 : goal.returns-then-left-eq0

@@ -1,4 +1,4 @@
-use Rattle.std.proofs.Common.{◌≡◌, ℕ, ◌-◌, ◌*◌, ◌≤◌, length, refl, ap, ◌∙◌, add-one, arith, rules}
+use Rattle.std.proofs.Common.{◌≡◌, ℕ, length, refl, ap, ◌∙◌, add-one, arith, rules}
 use Rattle.face.specs.Lists.{chain}
 use Rattle.column.proofs.Numbering.{walls, walls-more, name-count, faces-few}
 use Rattle.column.proofs.names.face_count.Goals as goal

@@ -1,4 +1,4 @@
-use Rattle.std.proofs.Common.{◌≡◌, ℕ, ◌+◌, ◌-◌, ◌<◌, ◌≤◌, length, sym, ap, ◌∙◌, ap₂, add-one, arith, rules}
+use Rattle.std.proofs.Common.{◌≡◌, ℕ, ◌+◌, ◌<◌, length, sym, ap, ◌∙◌, ap₂, add-one, arith, rules}
 use Rattle.face.specs.Lists.{chain}
 use Rattle.column.specs.Column.{parts_of, side_at}
 use Rattle.column.specs.Names.{side_faces}

@@ -1,9 +1,7 @@
 -- `name_of`: after d turns what is left counts on from the first d sides. Assumes nothing.
-use Rattle.std.proofs.Common.{◌≡◌, ℕ, ◌+◌, ◌-◌, ◌<◌, ◌≤◌, length, sym, ap, ◌∙◌, ap₂, add-one, arith, rules}
+use Rattle.std.proofs.Common.{◌≡◌, ◌+◌, ◌≤◌, length}
 use Rattle.face.specs.Lists.{chain}
-use Rattle.column.specs.Column.{parts_of, side_at}
-use Rattle.column.specs.Names.{side_faces}
-use Rattle.column.proofs.Numbering.{walls, walls-more, faces-few, stands-part, stands-name, cap-named}
+use Rattle.column.proofs.Numbering.{walls}
 use Rattle.column.proofs.names.name_of.Given as goal
 
 abbrev pub invariant-loop-d : goal.invariant-loop-d

@@ -1,5 +1,5 @@
 -- `start_of`: by the cases of the name. Assumes nothing.
-use Rattle.std.proofs.Common.{arith, rules}
+use Rattle.std.proofs.Common.{arith}
 use Rattle.column.proofs.Counts.{quad-small, cap-most}
 use Rattle.column.proofs.names.start_of.Goals as goal
 

@@ -1,5 +1,4 @@
 -- `part_at`: the four points at the two heights of a part. Assumes nothing.
-use Rattle.std.proofs.Common.{rules}
 use Rattle.column.proofs.wall.part_at.Goals as goal
 
 pub returns : goal.returns

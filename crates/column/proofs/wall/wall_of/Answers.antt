@@ -1,5 +1,4 @@
 -- `wall_of`: what the parts share. Assumes nothing.
-use Rattle.std.proofs.Common.{rules}
 use Rattle.column.proofs.wall.wall_of.Goals as goal
 
 pub returns : goal.returns

@@ -1,5 +1,5 @@
 -- `faces`: the plan, and the number of names. Assumes nothing.
-use Rattle.std.proofs.Common.{◌∙◌, rules}
+use Rattle.std.proofs.Common.{◌∙◌}
 use Rattle.column.specs.Column.{lists}
 use Rattle.column.proofs.Telling.{face-total}
 use Rattle.column.proofs.window.faces.Goals as goal

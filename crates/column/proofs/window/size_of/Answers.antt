@@ -1,5 +1,4 @@
 -- `size_of`: by the cases of the name. Assumes nothing.
-use Rattle.std.proofs.Common.{rules}
 use Rattle.column.proofs.window.size_of.Goals as goal
 
 pub returns-in-OfSide : goal.returns-in-OfSide

@@ -1,5 +1,5 @@
 -- `window`: the plan, then the number, then the face of that number. Assumes nothing.
-use Rattle.std.proofs.Common.{ap, ◌∙◌, ap₂, rules}
+use Rattle.std.proofs.Common.{ap, ◌∙◌, ap₂}
 use Rattle.mesh.specs.Jobs.{window_by}
 use Rattle.column.specs.Column.{lists}
 use Rattle.column.specs.Names.{start_by, size_by}

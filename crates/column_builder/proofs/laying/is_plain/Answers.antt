@@ -1,5 +1,4 @@
 -- `is_plain`: both tests. Assumes nothing.
-use borrow.Author.Rules.{rules}
 use mathlib.Core.Path.{sym, ap, ◌∙◌}
 use mathlib.Core.Bool.{Bool, ◌&&◌}
 use Rattle.placement.specs.Speed.{shifts_alone}

@@ -1,5 +1,4 @@
 -- `put_all`: the sides, then the caps, each at the place past what lies before it. Assumes nothing.
-use borrow.Author.Rules.{rules}
 use mathlib.Core.Path.{ap, ◌∙◌}
 use native.Mathlib.Omega.{arith}
 use Rattle.buffers.specs.Mesh.{also}

@@ -1,5 +1,4 @@
 -- `put_cap`: by the cases of the choice. Assumes nothing.
-use borrow.Author.Rules.{rules}
 use mathlib.Core.List.{[]}
 use mathlib.Core.Path.{sym, ap, ◌∙◌}
 use Rattle.placement.specs.declared.options.Choice.{Choice}

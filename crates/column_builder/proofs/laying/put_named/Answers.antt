@@ -1,5 +1,4 @@
 -- `put_named`: by the cases of the piece. Assumes nothing.
-use borrow.Author.Rules.{rules}
 use mathlib.Core.Path.{sym, ap, ◌∙◌}
 use Rattle.placement.specs.declared.options.FaceOptions.{FaceOptions}
 use Rattle.buffers.specs.Mesh.{Mesh}

@@ -1,5 +1,4 @@
 -- `put_part`: without an inset, and only moved, the plain face is the part. Assumes nothing.
-use borrow.Author.Rules.{rules}
 use mathlib.Core.Path.{sym, ap, ◌∙◌}
 use Rattle.face.specs.Inset.{is_none}
 use Rattle.placement.specs.Speed.{shifts_alone}

@@ -1,13 +1,13 @@
 use borrow.Author.Rules.{rules}
-use Prim.Native.Nat.{ℕ, ◌-◌, ◌≤◌}
+use Prim.Native.Nat.{ℕ}
 use mathlib.Core.Path.{◌≡◌, sym, ap, ◌∙◌}
 use native.Mathlib.Numerals.{add-one}
 use native.Mathlib.Omega.{arith}
 use lib.ListN.{length}
 use Rattle.face.specs.Lists.{each}
 use Rattle.buffers.specs.Mesh.{also, measure}
-use Rattle.buffers.specs.Laying.{Buffers, four, laid_if_fits, lay_each}
-use Rattle.buffers.proofs.Each.{SoFar, so-far-none, so-far-one, each-lengths}
+use Rattle.buffers.specs.Laying.{Buffers, four, lay_each}
+use Rattle.buffers.proofs.Each.{so-far-none, so-far-one, each-lengths}
 use Rattle.column.specs.Wall.{part_at, part_mesh}
 use Rattle.column.proofs.Counts.{each-most, quad-small, wall-size}
 use Rattle.column_builder.proofs.laying.put_parts.Goals as goal

@@ -1,5 +1,5 @@
 use borrow.Author.Rules.{rules}
-use Prim.Native.Nat.{ℕ, ◌-◌, ◌≤◌}
+use Prim.Native.Nat.{ℕ, ◌≤◌}
 use mathlib.Core.Path.{◌≡◌, ap, ap₂, ◌∙◌}
 use mathlib.Core.List.{List, [], map, map-append}
 use native.Mathlib.Numerals.{add-one}
@@ -9,7 +9,7 @@ use Rattle.face.specs.Lists.{each, chain}
 use Rattle.buffers.specs.Mesh.{Mesh, none, also, measure}
 use Rattle.buffers.specs.Laying.{Buffers, four, lay_each}
 use Rattle.buffers.proofs.Windows.{none-also}
-use Rattle.buffers.proofs.Each.{SoFar, so-far-none, so_far_more, each-lengths}
+use Rattle.buffers.proofs.Each.{so-far-none, so_far_more, each-lengths}
 use Rattle.column.specs.declared.wall.Wall.{Wall}
 use Rattle.column.specs.Column.{lists, parts_of, side_names, mesh_of}
 use Rattle.column.specs.Counts.{sides_counts}

@@ -1,5 +1,4 @@
 -- `hosirekar_cheap_column_face`: the function below it, with what is given carried from C and its answer to C. Assumes nothing.
-use borrow.Author.Rules.{rules}
 use Rattle.buffers.specs.Laying.{four}
 use Rattle.cheap_column.specs.declared.CheapColumn.{CheapColumn}
 use Rattle.cheap_column.specs.CheapColumn.{face_answer, faced}

@@ -1,5 +1,4 @@
 -- `hosirekar_cheap_column_faces`: the function below it, with what is given carried from C and what it tells to C. Assumes nothing.
-use borrow.Author.Rules.{rules}
 use Rattle.cheap_column.specs.declared.CheapColumn.{CheapColumn}
 use Rattle.cheap_column.specs.CheapColumn.{faces_told}
 use Rattle.boundary.specs.ToC.{faces_to_c}

@@ -1,5 +1,4 @@
 -- `hosirekar_column_faces`: the function below it, with what is given carried from C and what it tells to C. Assumes nothing.
-use borrow.Author.Rules.{rules}
 use Rattle.column.specs.declared.Column.{Column}
 use Rattle.column.specs.Column.{lists, faces_told}
 use Rattle.boundary.specs.ToC.{faces_to_c}

@@ -1,5 +1,4 @@
 -- `hosirekar_column_plan`: the function below it, with what is given carried from C and its answer to C. Assumes nothing.
-use borrow.Author.Rules.{rules}
 use Rattle.column.specs.declared.Column.{Column}
 use Rattle.column.specs.Column.{lists, planned}
 use Rattle.boundary.specs.ToC.{answer_to_c}

@@ -1,5 +1,4 @@
 -- `hosirekar_column_window`: the function below it, with what is given carried from C and what it tells to C. Assumes nothing.
-use borrow.Author.Rules.{rules}
 use Rattle.column.specs.declared.Column.{Column}
 use Rattle.column.specs.Column.{lists, window_told}
 use Rattle.boundary.specs.ToC.{window_to_c}

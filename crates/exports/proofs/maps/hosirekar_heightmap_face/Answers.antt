@@ -1,5 +1,4 @@
 -- `hosirekar_heightmap_face`: the function below it, with what is given carried from C and its answer to C; a fringe that means nothing is refused. Assumes nothing.
-use borrow.Author.Rules.{rules}
 use mathlib.Core.Path.{sym, ◌∙◌}
 use Rattle.buffers.specs.Laying.{four}
 use Rattle.heightmap.specs.declared.HeightMap.{HeightMap}

@@ -1,5 +1,4 @@
 -- `hosirekar_merge`: the function below it, with what is given carried from C and its answer to C. Assumes nothing.
-use borrow.Author.Rules.{rules}
 use Rattle.face.specs.declared.triangle.Counts.{Counts}
 use Rattle.buffers.specs.Laying.{four}
 use Rattle.merge.specs.Merge.{merge_answer, merged}

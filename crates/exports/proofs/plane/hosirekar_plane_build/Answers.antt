@@ -1,5 +1,4 @@
 -- `hosirekar_plane_build`: the function below it, with what is given carried from C and its answer to C. Assumes nothing.
-use borrow.Author.Rules.{rules}
 use Rattle.buffers.specs.Laying.{four}
 use Rattle.plane_builder.specs.declared.Plane.{Plane}
 use Rattle.plane_builder.specs.Plane.{lists, whole_answer, built}

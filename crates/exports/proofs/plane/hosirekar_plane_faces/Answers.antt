@@ -1,5 +1,4 @@
 -- `hosirekar_plane_faces`: the function below it, with what is given carried from C and what it tells to C. Assumes nothing.
-use borrow.Author.Rules.{rules}
 use Rattle.plane_builder.specs.declared.Plane.{Plane}
 use Rattle.plane_builder.specs.Plane.{lists, faces_told}
 use Rattle.boundary.specs.ToC.{faces_to_c}

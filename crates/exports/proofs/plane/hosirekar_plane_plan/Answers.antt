@@ -1,5 +1,4 @@
 -- `hosirekar_plane_plan`: the function below it, with what is given carried from C and its answer to C. Assumes nothing.
-use borrow.Author.Rules.{rules}
 use Rattle.plane_builder.specs.declared.Plane.{Plane}
 use Rattle.plane_builder.specs.Plane.{lists, planned}
 use Rattle.boundary.specs.ToC.{answer_to_c}

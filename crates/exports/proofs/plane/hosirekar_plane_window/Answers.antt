@@ -1,5 +1,4 @@
 -- `hosirekar_plane_window`: the function below it, with what is given carried from C and what it tells to C. Assumes nothing.
-use borrow.Author.Rules.{rules}
 use Rattle.plane_builder.specs.declared.Plane.{Plane}
 use Rattle.plane_builder.specs.Plane.{lists, window_told}
 use Rattle.boundary.specs.ToC.{window_to_c}

@@ -1,5 +1,4 @@
 -- `hosirekar_stl_read`: the function below it, with its answer carried to C. Assumes nothing.
-use borrow.Author.Rules.{rules}
 use Rattle.boundary.specs.ToC.{answer_to_c}
 use Rattle.exports.proofs.Carried.{carried}
 use Rattle.exports.proofs.stl.hosirekar_stl_read.Goals as goal

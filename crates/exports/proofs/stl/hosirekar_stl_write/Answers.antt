@@ -1,5 +1,4 @@
 -- `hosirekar_stl_write`: the function below it, with its counts carried from C and what it tells to C. Assumes nothing.
-use borrow.Author.Rules.{rules}
 use lib.ListN.{length}
 use Rattle.face.specs.declared.triangle.Counts.{Counts}
 use Rattle.buffers.specs.Laying.{four}

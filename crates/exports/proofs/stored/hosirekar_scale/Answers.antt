@@ -1,5 +1,4 @@
 -- `hosirekar_scale`: the function below it, with what is given carried from C and its answer to C. Assumes nothing.
-use borrow.Author.Rules.{rules}
 use Rattle.face.specs.declared.triangle.Counts.{Counts}
 use Rattle.face.specs.declared.vec.Vec3.{Vec3}
 use Rattle.buffers.specs.Laying.{four}

@@ -1,5 +1,4 @@
 -- `hosirekar_uv_centroid`: the function below it, with what is given carried from C and its answer to C. Assumes nothing.
-use borrow.Author.Rules.{rules}
 use Rattle.face.specs.declared.triangle.Counts.{Counts}
 use Rattle.buffers.specs.Laying.{four}
 use Rattle.mesh.specs.Stored.{uv_centroid_of}

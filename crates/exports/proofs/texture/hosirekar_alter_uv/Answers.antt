@@ -1,5 +1,4 @@
 -- `hosirekar_alter_uv`: the function below it, with what is given carried from C and its answer to C. Assumes nothing.
-use borrow.Author.Rules.{rules}
 use Rattle.exports.proofs.texture.hosirekar_alter_uv.Goals as goal
 
 pub returns : goal.returns

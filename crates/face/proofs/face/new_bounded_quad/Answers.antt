@@ -1,5 +1,4 @@
 -- `new_bounded_quad`: both shares, then the quad. Assumes nothing.
-use borrow.Author.Rules.{rules}
 use Rattle.face.proofs.face.new_bounded_quad.Goals as goal
 
 pub returns : goal.returns

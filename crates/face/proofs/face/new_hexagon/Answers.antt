@@ -1,5 +1,4 @@
 -- `new_hexagon`: the corners raised, and wrapped. Assumes nothing.
-use borrow.Author.Rules.{rules}
 use Rattle.face.proofs.face.new_hexagon.Goals as goal
 
 pub returns : goal.returns

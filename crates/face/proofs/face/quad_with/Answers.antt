@@ -1,5 +1,4 @@
 -- `quad_with`: the normal, then the four corners. Assumes nothing.
-use borrow.Author.Rules.{rules}
 use Rattle.face.proofs.face.quad_with.Goals as goal
 
 pub returns : goal.returns

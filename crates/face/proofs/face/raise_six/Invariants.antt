@@ -1,11 +1,7 @@
 -- `raise_six`: the loop fills the array, point by point. Assumes nothing.
-use borrow.Author.Rules.{rules}
-use Prim.Native.Nat.{◌-◌}
-use mathlib.Core.Path.{◌≡◌, refl}
-use lib.ListN.{length, get_or}
-use Rattle.face.specs.declared.vec.Vec2.{Vec2}
+use lib.ListN.{get_or}
 use Rattle.face.specs.Vec.{off2, upright}
-use Rattle.face.proofs.Filling.{Filled, filled_more, filled-map}
+use Rattle.face.proofs.Filling.{Filled}
 use Rattle.face.proofs.face.raise_six.Given as goal
 
 abbrev pub invariant-loop-i : goal.invariant-loop-i

@@ -1,5 +1,4 @@
 -- `hexagon_triangle`: the three kinds of inset. Assumes nothing.
-use borrow.Author.Rules.{rules}
 use Rattle.face.proofs.triangle.hexagon_triangle.Goals as goal
 
 pub returns-in-None : goal.returns-in-None

@@ -1,5 +1,4 @@
 -- `ring_counts`: three indices more for each inner triangle that is kept. Assumes nothing.
-use borrow.Author.Rules.{rules}
 use native.Mathlib.Nat.{add-zero}
 use Rattle.face.proofs.triangle.ring_counts.Goals as goal
 

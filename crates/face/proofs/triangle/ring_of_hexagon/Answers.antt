@@ -1,5 +1,4 @@
 -- `ring_of_hexagon`: the connecting triangles, then the inner ones if they are kept. Assumes nothing.
-use borrow.Author.Rules.{rules}
 use mathlib.Core.Path.{sym, ap, ◌∙◌}
 use mathlib.Core.Bool.{Bool}
 use Prim.Native.Nat.{◌-◌}

@@ -1,10 +1,9 @@
 use borrow.Author.Rules.{rules}
-use Prim.Native.Nat.{◌-◌}
 use mathlib.Core.Path.{◌≡◌, refl}
-use lib.ListN.{length, get_or}
+use lib.ListN.{length}
 use Rattle.face.specs.Vec.{off2}
 use Rattle.face.specs.Texture.{altered}
-use Rattle.face.proofs.Filling.{Filled, filled_more, filled-map}
+use Rattle.face.proofs.Filling.{filled_more, filled-map}
 use Rattle.face.proofs.uv_mapping.alter_twelve.Goals as goal
 
 pub loop-i-init : goal.loop-i-init

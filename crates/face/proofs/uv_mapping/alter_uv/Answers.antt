@@ -1,5 +1,4 @@
 -- `alter_uv`: one component, then the other. Assumes nothing.
-use borrow.Author.Rules.{rules}
 use Rattle.face.proofs.uv_mapping.alter_uv.Goals as goal
 
 pub returns : goal.returns

@@ -1,5 +1,4 @@
 -- `one_of`: one over the length. Assumes nothing.
-use borrow.Author.Rules.{rules}
 use Rattle.face.proofs.uv_mapping.one_of.Goals as goal
 
 pub returns : goal.returns

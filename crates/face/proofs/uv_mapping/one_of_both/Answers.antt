@@ -1,5 +1,4 @@
 -- `one_of_both`: the test of the definition. Assumes nothing.
-use borrow.Author.Rules.{rules}
 use Rattle.face.proofs.uv_mapping.one_of_both.Goals as goal
 
 pub returns-then-are_same : goal.returns-then-are_same

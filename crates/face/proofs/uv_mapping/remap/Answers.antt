@@ -1,6 +1,5 @@
 -- `remap`: a factor of one leaves an addition, and one of zero needs no fusing. Assumes nothing.
 use mathlib.Core.Path.{sym}
-use borrow.Author.Rules.{rules}
 use Rattle.arith.proofs.Laws.{fma-of-one, one-of-fma, fma-of-zero}
 use Rattle.face.proofs.uv_mapping.remap.Goals as goal
 

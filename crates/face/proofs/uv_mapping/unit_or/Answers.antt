@@ -1,5 +1,4 @@
 -- `unit_or`: the test of the definition. Assumes nothing.
-use borrow.Author.Rules.{rules}
 use Rattle.face.proofs.uv_mapping.unit_or.Goals as goal
 
 pub returns-then-is_usable : goal.returns-then-is_usable

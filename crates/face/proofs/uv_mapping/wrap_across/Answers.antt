@@ -1,5 +1,4 @@
 -- `wrap_across`: by the one reciprocal length of both, or each by its own. Assumes nothing.
-use borrow.Author.Rules.{rules}
 use mathlib.Core.Path.{sym, ap, ◌∙◌}
 use Rattle.face.specs.Texture.{halved}
 use Rattle.face.proofs.Wraps.{both-wrapped}

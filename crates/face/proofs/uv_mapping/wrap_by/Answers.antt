@@ -1,5 +1,4 @@
 -- `wrap_by`: a reciprocal length at hand serves, and any other is asked. Assumes nothing.
-use borrow.Author.Rules.{rules}
 use mathlib.Core.Path.{sym, ap, ◌∙◌}
 use Rattle.face.specs.Texture.{halved}
 use Rattle.face.proofs.Wraps.{wrapped-by}

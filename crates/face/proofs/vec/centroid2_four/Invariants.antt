@@ -1,10 +1,6 @@
 -- `centroid2_four`: after i turns t is the sum of the first i points. Assumes nothing.
-use borrow.Author.Rules.{rules}
-use Prim.Native.Nat.{◌-◌}
-use native.Mathlib.Omega.{arith}
-use mathlib.Core.Path.{refl}
-use Rattle.face.specs.Vec.{plus2, over2, zero2, off2}
-use Rattle.face.proofs.Filling.{Summed, summed-more, middle-done, four}
+use Rattle.face.specs.Vec.{plus2, zero2}
+use Rattle.face.proofs.Filling.{Summed}
 use Rattle.face.proofs.vec.centroid2_four.Given as goal
 
 abbrev pub invariant-loop-i : goal.invariant-loop-i

@@ -1,9 +1,8 @@
 use borrow.Author.Rules.{rules}
-use Prim.Native.Nat.{◌-◌}
 use native.Mathlib.Omega.{arith}
 use mathlib.Core.Path.{refl}
 use Rattle.face.specs.Vec.{plus2, over2, zero2, off2}
-use Rattle.face.proofs.Filling.{Summed, summed-more, middle-done, six}
+use Rattle.face.proofs.Filling.{summed-more, middle-done, six}
 use Rattle.face.proofs.vec.centroid2_six.Goals as goal
 
 pub loop-i-init : goal.loop-i-init

@@ -1,9 +1,8 @@
 use borrow.Author.Rules.{rules}
-use Prim.Native.Nat.{◌-◌}
 use native.Mathlib.Omega.{arith}
 use mathlib.Core.Path.{refl}
 use Rattle.face.specs.Vec.{plus3, over3, zero3, off3}
-use Rattle.face.proofs.Filling.{Summed, summed-more, middle-done, four}
+use Rattle.face.proofs.Filling.{summed-more, middle-done, four}
 use Rattle.face.proofs.vec.centroid3_four.Goals as goal
 
 pub loop-i-init : goal.loop-i-init

@@ -1,5 +1,4 @@
 -- `len2`: the root of the square. Assumes nothing.
-use borrow.Author.Rules.{rules}
 use Rattle.face.proofs.vec.len2.Goals as goal
 
 pub returns : goal.returns

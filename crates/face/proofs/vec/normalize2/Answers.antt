@@ -1,5 +1,4 @@
 -- `normalize2`: the point times one over its length. Assumes nothing.
-use borrow.Author.Rules.{rules}
 use Rattle.face.proofs.vec.normalize2.Goals as goal
 
 pub returns : goal.returns

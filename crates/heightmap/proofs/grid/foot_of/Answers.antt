@@ -1,5 +1,4 @@
 -- `foot_of`: a wall that stands on nothing has NaN. Assumes nothing.
-use borrow.Author.Rules.{rules}
 use Rattle.heightmap.proofs.Reading.{no_number}
 use Rattle.heightmap.proofs.grid.foot_of.Goals as goal
 

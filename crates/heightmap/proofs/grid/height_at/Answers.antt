@@ -1,5 +1,4 @@
 -- `height_at`: the first number of a cell. Assumes nothing.
-use borrow.Author.Rules.{rules}
 use native.Mathlib.Nat.{add-zero}
 use Rattle.heightmap.proofs.grid.height_at.Goals as goal
 

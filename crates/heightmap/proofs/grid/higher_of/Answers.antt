@@ -1,5 +1,4 @@
 -- `higher_of`: the later one only where it is higher. Assumes nothing.
-use borrow.Author.Rules.{rules}
 use Rattle.heightmap.proofs.grid.higher_of.Goals as goal
 
 pub returns-then-a-b : goal.returns-then-a-b

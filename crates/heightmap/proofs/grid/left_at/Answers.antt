@@ -1,5 +1,4 @@
 -- `left_at`: the first pair of a side. Assumes nothing.
-use borrow.Author.Rules.{rules}
 use native.Mathlib.Nat.{add_assoc}
 use Rattle.heightmap.proofs.grid.left_at.Goals as goal
 

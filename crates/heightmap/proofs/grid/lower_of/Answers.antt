@@ -1,5 +1,4 @@
 -- `lower_of`: the later one only where it is lower. Assumes nothing.
-use borrow.Author.Rules.{rules}
 use Rattle.heightmap.proofs.grid.lower_of.Goals as goal
 
 pub returns-then-b-a : goal.returns-then-b-a

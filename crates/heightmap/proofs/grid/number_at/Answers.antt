@@ -1,9 +1,9 @@
 -- `number_at`: what is past the end reads as NaN. Assumes nothing.
 use borrow.Author.Rules.{rules}
 use mathlib.Core.Path.{sym, ◌∙◌}
-use Prim.Native.Nat.{◌+◌, ◌*◌, ◌≤◌}
+use Prim.Native.Nat.{◌+◌, ◌*◌}
 use native.Mathlib.Omega.{arith}
-use lib.ListN.{length, get_or-eq_default}
+use lib.ListN.{get_or-eq_default}
 use lib.Ieee.{nan}
 use Rattle.heightmap.proofs.Reading.{no_number, within, past}
 use Rattle.heightmap.proofs.grid.number_at.Goals as goal

@@ -1,5 +1,4 @@
 -- `pair_at`: a number and the next. Assumes nothing.
-use borrow.Author.Rules.{rules}
 use native.Mathlib.Nat.{add_assoc}
 use Rattle.heightmap.proofs.grid.pair_at.Goals as goal
 

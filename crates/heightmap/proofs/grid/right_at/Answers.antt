@@ -1,5 +1,4 @@
 -- `right_at`: the second pair of a side. Assumes nothing.
-use borrow.Author.Rules.{rules}
 use native.Mathlib.Nat.{add_assoc}
 use Rattle.heightmap.proofs.grid.right_at.Goals as goal
 

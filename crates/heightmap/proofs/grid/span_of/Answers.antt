@@ -1,5 +1,4 @@
 -- `span_of`: of all heights, or as it is given. Assumes nothing.
-use borrow.Author.Rules.{rules}
 use Rattle.heightmap.proofs.grid.span_of.Goals as goal
 
 pub returns-in-OfAll : goal.returns-in-OfAll

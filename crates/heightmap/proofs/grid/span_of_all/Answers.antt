@@ -1,10 +1,7 @@
 use borrow.Author.Rules.{rules}
-use Prim.Native.Nat.{◌-◌, ◌≤◌}
-use mathlib.Core.Path.{◌≡◌}
 use native.Mathlib.Numerals.{add-one}
 use native.Mathlib.Omega.{arith}
 use borrow.Author.Tests.{eq-eqb, ne_eqb}
-use Rattle.heightmap.specs.Grid.{height_at, lower, higher, kept}
 use Rattle.heightmap.proofs.Reading.{span-done}
 use Rattle.heightmap.proofs.grid.span_of_all.Goals as goal
 

@@ -1,12 +1,7 @@
 -- `span_of_all`: the least and the greatest of the heights seen so far. Assumes nothing.
-use borrow.Author.Rules.{rules}
-use Prim.Native.Nat.{◌-◌, ◌≤◌}
+use Prim.Native.Nat.{◌≤◌}
 use mathlib.Core.Path.{◌≡◌}
-use native.Mathlib.Numerals.{add-one}
-use native.Mathlib.Omega.{arith}
-use borrow.Author.Tests.{eq-eqb, ne_eqb}
 use Rattle.heightmap.specs.Grid.{height_at, lower, higher, kept}
-use Rattle.heightmap.proofs.Reading.{span-done}
 use Rattle.heightmap.proofs.grid.span_of_all.Given as goal
 
 abbrev pub invariant-loop-k : goal.invariant-loop-k

@@ -1,5 +1,4 @@
 -- `wall_against`: below the cell's height or not. Assumes nothing.
-use borrow.Author.Rules.{rules}
 use Rattle.heightmap.proofs.grid.wall_against.Goals as goal
 
 pub returns-then-beyond-own : goal.returns-then-beyond-own

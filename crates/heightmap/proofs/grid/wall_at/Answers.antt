@@ -1,5 +1,4 @@
 -- `wall_at`: none where sides are off. Assumes nothing.
-use borrow.Author.Rules.{rules}
 use Rattle.heightmap.proofs.grid.wall_at.Goals as goal
 
 pub returns-in-With : goal.returns-in-With

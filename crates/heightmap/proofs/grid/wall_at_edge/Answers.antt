@@ -1,5 +1,4 @@
 -- `wall_at_edge`: nothing, or the height that the fringe lists. Assumes nothing.
-use borrow.Author.Rules.{rules}
 use Rattle.heightmap.proofs.grid.wall_at_edge.Goals as goal
 
 pub returns-in-Listed : goal.returns-in-Listed

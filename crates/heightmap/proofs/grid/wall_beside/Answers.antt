@@ -1,5 +1,4 @@
 -- `wall_beside`: the neighbour's height, or what lies at the edge where there is none. Assumes nothing.
-use borrow.Author.Rules.{rules}
 use borrow.Author.Tests.{eq-eqb, ne_eqb}
 use mathlib.Core.Path.{◌∙◌}
 use Rattle.heightmap.proofs.Walls.{edge-alone}

@@ -1,5 +1,4 @@
 -- `choice_of`: a cap's, or a side's. Assumes nothing.
-use borrow.Author.Rules.{rules}
 use native.Mathlib.Nat.{add-zero}
 use Rattle.heightmap.proofs.options.choice_of.Goals as goal
 

@@ -1,5 +1,4 @@
 -- `choose`: 255 is no choice of its own. Assumes nothing.
-use borrow.Author.Rules.{rules}
 use borrow.Author.Tests.{eq-eqb, ne_eqb}
 use Rattle.heightmap.proofs.options.choose.Goals as goal
 

@@ -1,5 +1,4 @@
 -- `origin_of`: none where the map is centred. Assumes nothing.
-use borrow.Author.Rules.{rules}
 use Rattle.heightmap.proofs.options.origin_of.Goals as goal
 
 pub returns-in-At : goal.returns-in-At

@@ -1,5 +1,4 @@
 -- `side_stand`: moved by the origin last. Assumes nothing.
-use borrow.Author.Rules.{rules}
 use Rattle.heightmap.proofs.options.side_stand.Goals as goal
 
 pub returns : goal.returns

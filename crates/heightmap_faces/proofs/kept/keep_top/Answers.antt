@@ -1,5 +1,4 @@
 -- `keep_top`: by the number. Assumes nothing.
-use borrow.Author.Rules.{rules}
 use borrow.Author.Tests.{eq-eqb, ne_eqb}
 use Rattle.heightmap_faces.proofs.kept.keep_top.Goals as goal
 

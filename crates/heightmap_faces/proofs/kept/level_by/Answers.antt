@@ -1,5 +1,4 @@
 -- `level_by`: the option of the number, its skin, and that at the height. Assumes nothing.
-use borrow.Author.Rules.{rules}
 use Rattle.heightmap_faces.proofs.kept.level_by.Goals as goal
 
 pub returns : goal.returns

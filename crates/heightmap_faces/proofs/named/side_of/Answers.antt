@@ -1,5 +1,4 @@
 -- `side_of`: each part by its promise. Assumes nothing.
-use borrow.Author.Rules.{rules}
 use Rattle.heightmap.specs.Grid.{span_of}
 use Rattle.heightmap_faces.proofs.named.side_of.Goals as goal
 

@@ -1,5 +1,4 @@
 -- `face_count`: all lie before the cell after the last. Assumes nothing.
-use borrow.Author.Rules.{rules}
 use mathlib.Core.Path.{sym, ◌∙◌}
 use borrow.Author.Tests.{leb-true}
 use Rattle.heightmap.specs.Grid.{grid}

@@ -1,5 +1,4 @@
 -- `find`: as the survey finds it. Assumes nothing.
-use borrow.Author.Rules.{rules}
 use mathlib.Core.Path.{ap}
 use Rattle.heightmap_plan.specs.declared.names.Survey.{Survey}
 use Rattle.heightmap_plan.proofs.names.find.Goals as goal

@@ -1,20 +1,13 @@
 -- `find_side`: as many sides are passed as the number leaves. Assumes nothing.
-use borrow.Author.Rules.{rules}
-use Prim.Native.Nat.{◌+◌, ◌-◌, ◌≤◌, ◌<◌}
-use mathlib.Core.Path.{◌≡◌, ap, sym, ◌∙◌}
+use Prim.Native.Nat.{◌+◌, ◌≤◌}
+use mathlib.Core.Path.{◌≡◌}
 use mathlib.Core.List.{[]}
-use native.Mathlib.Numerals.{add-one}
-use native.Mathlib.Omega.{arith}
-use lib.ListN.{length, length-append}
+use lib.ListN.{length}
 use Rattle.face.specs.Lists.{chain}
 use Rattle.buffers.specs.Mesh.{also, summed}
-use Rattle.buffers.proofs.Windows.{also-assoc, also-none}
 use Rattle.heightmap.specs.Grid.{grid}
 use Rattle.heightmap.specs.HeightMap.{lists, side_names}
 use Rattle.heightmap.specs.Counts.{side_counts}
-use Rattle.heightmap_plan.specs.declared.tally.Tally.{Tally}
-use Rattle.heightmap_plan.proofs.Walking.{Small, side-small, sides-small}
-use Rattle.heightmap_plan.proofs.Finding.{side-found}
 use Rattle.heightmap_plan.proofs.names.find_side.Given as goal
 
 abbrev pub invariant-loop-d : goal.invariant-loop-d

@@ -1,5 +1,4 @@
 -- `number_of`: a cap comes first in its cell. Assumes nothing.
-use borrow.Author.Rules.{rules}
 use mathlib.Core.Path.{sym, ◌∙◌}
 use borrow.Author.Tests.{leb-true}
 use Rattle.heightmap_plan.proofs.names.number_of.Goals as goal

@@ -1,5 +1,4 @@
 -- `survey_faces`: the cell that the walk finds, and the face in it. Assumes nothing.
-use borrow.Author.Rules.{rules}
 use mathlib.Core.Path.{sym, ap, ap₂, ◌∙◌}
 use mathlib.Core.List.{[]}
 use borrow.Author.Tests.{leb-true}

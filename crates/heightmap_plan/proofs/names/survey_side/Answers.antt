@@ -1,5 +1,4 @@
 -- `survey_side`: the walk over all cells, with what lies before the side's. Assumes nothing.
-use borrow.Author.Rules.{rules}
 use mathlib.Core.Path.{sym, ◌∙◌}
 use mathlib.Core.List.{[]}
 use borrow.Author.Tests.{leb-true, lt-ltb, le-ltb}

@@ -1,5 +1,4 @@
 -- `cap_tally`: one cap, or none. Assumes nothing.
-use borrow.Author.Rules.{rules}
 use mathlib.Core.Path.{sym}
 use mathlib.Core.List.{[]}
 use Rattle.heightmap.specs.Grid.{grid}

@@ -1,14 +1,10 @@
 -- `cell_tally`: the sides seen so far, and the cap before them. Assumes nothing.
-use borrow.Author.Rules.{rules}
-use Prim.Native.Nat.{◌-◌, ◌≤◌}
-use mathlib.Core.Path.{◌≡◌, ap, ap₂, ◌∙◌}
+use Prim.Native.Nat.{◌≤◌}
+use mathlib.Core.Path.{◌≡◌}
 use mathlib.Core.List.{[]}
-use native.Mathlib.Numerals.{add-one}
-use native.Mathlib.Omega.{arith}
 use Rattle.heightmap.specs.Grid.{grid}
 use Rattle.heightmap.specs.HeightMap.{lists}
-use Rattle.heightmap_plan.specs.Walking.{both, sides_tally}
-use Rattle.heightmap_plan.proofs.Walking.{side-small, sides-small, cap-small, sides-more, cell-whole}
+use Rattle.heightmap_plan.specs.Walking.{sides_tally}
 use Rattle.heightmap_plan.proofs.tally.cell_tally.Given as goal
 
 abbrev pub invariant-loop-d : goal.invariant-loop-d

@@ -1,5 +1,4 @@
 -- `cell_walls`: none where sides are off. Assumes nothing.
-use borrow.Author.Rules.{rules}
 use mathlib.Core.Path.{sym}
 use native.Mathlib.Omega.{arith}
 use Rattle.heightmap.specs.Grid.{grid}

@@ -1,5 +1,4 @@
 -- `edge_stands`: nothing, or the height that the fringe lists. Assumes nothing.
-use borrow.Author.Rules.{rules}
 use Rattle.heightmap_plan.proofs.tally.edge_stands.Goals as goal
 
 pub returns-in-Listed : goal.returns-in-Listed

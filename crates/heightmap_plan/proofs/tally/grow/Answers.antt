@@ -1,5 +1,4 @@
 -- `grow`: more faces, and the same cell. Assumes nothing.
-use borrow.Author.Rules.{rules}
 use Rattle.heightmap_plan.proofs.tally.grow.Goals as goal
 
 pub returns : goal.returns

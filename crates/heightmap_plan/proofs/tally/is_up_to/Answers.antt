@@ -1,5 +1,4 @@
 -- `is_up_to`: by what is looked for. Assumes nothing.
-use borrow.Author.Rules.{rules}
 use Rattle.heightmap_plan.proofs.tally.is_up_to.Goals as goal
 
 pub returns-in-Face : goal.returns-in-Face

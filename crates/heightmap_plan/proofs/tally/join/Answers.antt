@@ -1,5 +1,4 @@
 -- `join`: the sums of both. Assumes nothing.
-use borrow.Author.Rules.{rules}
 use Rattle.heightmap_plan.proofs.tally.join.Goals as goal
 
 pub returns : goal.returns

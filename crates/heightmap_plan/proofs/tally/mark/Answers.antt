@@ -1,5 +1,4 @@
 -- `mark`: the cell is the last at or before what is looked for. Assumes nothing.
-use borrow.Author.Rules.{rules}
 use mathlib.Core.Path.{sym, ◌∙◌}
 use Rattle.heightmap_plan.proofs.tally.mark.Goals as goal
 

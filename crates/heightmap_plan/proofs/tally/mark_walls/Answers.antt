@@ -1,5 +1,4 @@
 -- `mark_walls`: the cell is the last at or before what is looked for. Assumes nothing.
-use borrow.Author.Rules.{rules}
 use mathlib.Core.Path.{sym, ◌∙◌}
 use native.Mathlib.Omega.{arith}
 use Rattle.heightmap_plan.proofs.Walking.{caps-most}

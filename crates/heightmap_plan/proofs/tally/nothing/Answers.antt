@@ -1,5 +1,4 @@
 -- `nothing`: no faces. Assumes nothing.
-use borrow.Author.Rules.{rules}
 use Rattle.heightmap_plan.proofs.tally.nothing.Goals as goal
 
 pub returns : goal.returns

@@ -1,5 +1,4 @@
 -- `own_tally`: caps and walls, each of one size. Assumes nothing.
-use borrow.Author.Rules.{rules}
 use native.Mathlib.Omega.{arith}
 use Rattle.heightmap_plan.proofs.Walking.{quad-few, hexagon-few, many-few, caps-most}
 use Rattle.heightmap_plan.proofs.tally.own_tally.Goals as goal

@@ -1,5 +1,4 @@
 -- `side_tally`: one wall, or none. Assumes nothing.
-use borrow.Author.Rules.{rules}
 use mathlib.Core.Path.{sym, ◌∙◌}
 use Rattle.heightmap_plan.proofs.tally.side_tally.Goals as goal
 

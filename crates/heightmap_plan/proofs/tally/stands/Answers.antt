@@ -1,5 +1,4 @@
 -- `stands`: the neighbour or the edge is lower. Assumes nothing.
-use borrow.Author.Rules.{rules}
 use mathlib.Core.Path.{sym, ◌∙◌}
 use borrow.Author.Tests.{eq-eqb, ne_eqb}
 use Rattle.heightmap.specs.Grid.{grid}

@@ -1,5 +1,4 @@
 -- `tally_all`: the walk over all cells. Assumes nothing.
-use borrow.Author.Rules.{rules}
 use mathlib.Core.Path.{sym, ◌∙◌}
 use mathlib.Core.List.{[]}
 use borrow.Author.Tests.{leb-true}

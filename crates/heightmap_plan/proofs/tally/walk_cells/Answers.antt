@@ -1,5 +1,4 @@
 -- `walk_cells`: the walls alone, where no face has an option of its own. Assumes nothing.
-use borrow.Author.Rules.{rules}
 use mathlib.Core.Path.{◌∙◌}
 use mathlib.Core.List.{[]}
 use native.Mathlib.Omega.{arith}

@@ -1,5 +1,4 @@
 -- `walk_own`: both of the same sizes. Assumes nothing.
-use borrow.Author.Rules.{rules}
 use Rattle.heightmap_plan.proofs.tally.walk_own.Goals as goal
 
 pub returns : goal.returns

@@ -1,5 +1,4 @@
 -- `seek`: the sums come first, then the tests and the number among the faces. Assumes nothing.
-use borrow.Author.Rules.{rules}
 use mathlib.Core.Path.{ap, ap₂, ◌∙◌}
 use Rattle.answer.specs.declared.answer.Answer.{Answer}
 use Rattle.answer.specs.Answers.{limited, named}

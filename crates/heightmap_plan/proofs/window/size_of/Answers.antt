@@ -1,5 +1,4 @@
 -- `size_of`: by the cases of the name. Assumes nothing.
-use borrow.Author.Rules.{rules}
 use Rattle.heightmap_plan.proofs.window.size_of.Goals as goal
 
 pub returns-in-Cap : goal.returns-in-Cap

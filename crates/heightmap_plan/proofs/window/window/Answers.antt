@@ -1,5 +1,4 @@
 -- `window`: the number, then the face that is sought. Assumes nothing.
-use borrow.Author.Rules.{rules}
 use mathlib.Core.Path.{ap, ◌∙◌}
 use Rattle.heightmap.specs.Grid.{grid}
 use Rattle.heightmap_plan.specs.declared.window.Sought.{Sought}

@@ -1,5 +1,5 @@
 -- `put2`: two stores are one list laid. Assumes nothing.
-use Rattle.std.proofs.Common.{arith, length-set, rules}
+use Rattle.std.proofs.Common.{arith, length-set}
 use Rattle.buffers.proofs.Laid.{laid-two}
 use Rattle.mesh.proofs.put.put2.Goals as goal
 

@@ -1,5 +1,5 @@
 -- `put3`: three stores are one list laid. Assumes nothing.
-use Rattle.std.proofs.Common.{arith, length-set, rules}
+use Rattle.std.proofs.Common.{arith, length-set}
 use Rattle.buffers.proofs.Laid.{laid-three}
 use Rattle.mesh.proofs.put.put3.Goals as goal
 

@@ -1,5 +1,5 @@
 -- `answer_of`: the shape, then the range, then the limit. Assumes nothing.
-use Rattle.std.proofs.Common.{sym, ◌∙◌, rules}
+use Rattle.std.proofs.Common.{sym, ◌∙◌}
 use Rattle.mesh.proofs.stored.answer_of.Goals as goal
 
 pub returns-then-good : goal.returns-then-good

@@ -1,5 +1,5 @@
 -- `centroid`: the answer decides, and the sum over its number is the middle. Assumes nothing.
-use Rattle.std.proofs.Common.{◌*◌, rules}
+use Rattle.std.proofs.Common.{◌*◌}
 use Rattle.face.specs.declared.vec.Vec3.{Vec3}
 use Rattle.face.specs.Vec.{plus3, zero3, over3}
 use Rattle.answer.specs.declared.answer.Answer.{Answer}

@@ -1,5 +1,4 @@
 -- `mean2`: each component over the same number. Assumes nothing.
-use Rattle.std.proofs.Common.{rules}
 use Rattle.mesh.proofs.stored.mean2.Goals as goal
 
 pub returns : goal.returns

@@ -1,5 +1,4 @@
 -- `mean3`: each component over the same number. Assumes nothing.
-use Rattle.std.proofs.Common.{rules}
 use Rattle.mesh.proofs.stored.mean3.Goals as goal
 
 pub returns : goal.returns

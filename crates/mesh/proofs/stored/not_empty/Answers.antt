@@ -1,5 +1,5 @@
 -- `not_empty`: a refusal stays; else its one test. Assumes nothing.
-use Rattle.std.proofs.Common.{rules, le-ltb, lt-ltb}
+use Rattle.std.proofs.Common.{le-ltb, lt-ltb}
 use Rattle.mesh.proofs.stored.not_empty.Goals as goal
 
 pub returns-then-counts-gt0 : goal.returns-then-counts-gt0

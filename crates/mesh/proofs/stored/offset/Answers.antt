@@ -1,5 +1,5 @@
 -- `offset`: the answer decides, and the points are moved. Assumes nothing.
-use Rattle.std.proofs.Common.{List, ap, rules}
+use Rattle.std.proofs.Common.{List, ap}
 use lib.Ieee.{Float}
 use Rattle.face.specs.declared.vec.Vec3.{Vec3}
 use Rattle.face.specs.declared.triangle.Counts.{Counts}

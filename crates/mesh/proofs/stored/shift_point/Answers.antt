@@ -1,5 +1,4 @@
 -- `shift_point`: what was read is laid again, with its addend. Assumes nothing.
-use Rattle.std.proofs.Common.{rules}
 use Rattle.mesh.proofs.stored.shift_point.Goals as goal
 
 pub returns : goal.returns

@@ -1,7 +1,7 @@
-use Rattle.std.proofs.Common.{◌-◌, sym, refl, arith, rules}
+use Rattle.std.proofs.Common.{sym, refl, arith}
 use Rattle.buffers.proofs.Laid.{laid-nothing, laying-done}
 use Rattle.face.specs.Vec.{plus3}
-use Rattle.mesh.proofs.Moving.{Moving, point_part, points-more}
+use Rattle.mesh.proofs.Moving.{points-more}
 use Rattle.mesh.proofs.stored.shift_points.Goals as goal
 
 pub loop-k-init : goal.loop-k-init

@@ -1,8 +1,6 @@
 -- `shift_points`: a turn moves one point. Assumes nothing.
-use Rattle.std.proofs.Common.{◌-◌, sym, refl, arith, rules}
-use Rattle.buffers.proofs.Laid.{laid-nothing, laying-done}
 use Rattle.face.specs.Vec.{plus3}
-use Rattle.mesh.proofs.Moving.{Moving, point_part, points-more}
+use Rattle.mesh.proofs.Moving.{Moving, point_part}
 use Rattle.mesh.proofs.stored.shift_points.Given as goal
 
 abbrev pub invariant-loop-k : goal.invariant-loop-k

@@ -1,5 +1,4 @@
 -- `stretch_point`: what was read is laid again, multiplied. Assumes nothing.
-use Rattle.std.proofs.Common.{rules}
 use Rattle.mesh.proofs.stored.stretch_point.Goals as goal
 
 pub returns : goal.returns

@@ -1,8 +1,6 @@
 -- `stretch_points`: a turn moves one point. Assumes nothing.
-use Rattle.std.proofs.Common.{◌-◌, sym, refl, arith, rules}
-use Rattle.buffers.proofs.Laid.{laid-nothing, laying-done}
 use Rattle.mesh.specs.Stored.{stretched3}
-use Rattle.mesh.proofs.Moving.{Moving, point_part, points-more}
+use Rattle.mesh.proofs.Moving.{Moving, point_part}
 use Rattle.mesh.proofs.stored.stretch_points.Given as goal
 
 abbrev pub invariant-loop-k : goal.invariant-loop-k

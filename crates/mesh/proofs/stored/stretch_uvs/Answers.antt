@@ -1,7 +1,7 @@
-use Rattle.std.proofs.Common.{◌-◌, sym, refl, arith, rules}
+use Rattle.std.proofs.Common.{sym, refl, arith}
 use Rattle.buffers.proofs.Laid.{laid-nothing, laying-done}
 use Rattle.mesh.specs.Stored.{stretched2}
-use Rattle.mesh.proofs.Moving.{Moving, uv_part, uvs-more}
+use Rattle.mesh.proofs.Moving.{uvs-more}
 use Rattle.mesh.proofs.stored.stretch_uvs.Goals as goal
 
 pub loop-k-init : goal.loop-k-init

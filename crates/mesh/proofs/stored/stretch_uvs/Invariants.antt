@@ -1,8 +1,6 @@
 -- `stretch_uvs`: a turn moves one uv. Assumes nothing.
-use Rattle.std.proofs.Common.{◌-◌, sym, refl, arith, rules}
-use Rattle.buffers.proofs.Laid.{laid-nothing, laying-done}
 use Rattle.mesh.specs.Stored.{stretched2}
-use Rattle.mesh.proofs.Moving.{Moving, uv_part, uvs-more}
+use Rattle.mesh.proofs.Moving.{Moving, uv_part}
 use Rattle.mesh.proofs.stored.stretch_uvs.Given as goal
 
 abbrev pub invariant-loop-k : goal.invariant-loop-k

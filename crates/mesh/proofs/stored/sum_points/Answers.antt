@@ -1,7 +1,5 @@
-use Rattle.std.proofs.Common.{◌*◌, ◌∙◌, rules}
-use Rattle.face.specs.Vec.{plus3, zero3}
-use Rattle.mesh.specs.Stored.{point_from}
-use Rattle.mesh.proofs.Moving.{Adding, adding-none, adding-more, adding-done}
+use Rattle.std.proofs.Common.{◌∙◌}
+use Rattle.mesh.proofs.Moving.{adding-none, adding-more, adding-done}
 use Rattle.mesh.proofs.stored.sum_points.Goals as goal
 
 pub loop-left-init : goal.loop-left-init

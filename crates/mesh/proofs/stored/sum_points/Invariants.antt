@@ -1,8 +1,8 @@
 -- `sum_points`: t is the sum of all but those left. Assumes nothing.
-use Rattle.std.proofs.Common.{◌*◌, ◌∙◌, rules}
+use Rattle.std.proofs.Common.{◌*◌}
 use Rattle.face.specs.Vec.{plus3, zero3}
 use Rattle.mesh.specs.Stored.{point_from}
-use Rattle.mesh.proofs.Moving.{Adding, adding-none, adding-more, adding-done}
+use Rattle.mesh.proofs.Moving.{Adding}
 use Rattle.mesh.proofs.stored.sum_points.Given as goal
 
 abbrev pub invariant-loop-left : goal.invariant-loop-left

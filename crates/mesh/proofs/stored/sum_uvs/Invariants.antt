@@ -1,8 +1,8 @@
 -- `sum_uvs`: t is the sum of all but those left. Assumes nothing.
-use Rattle.std.proofs.Common.{◌*◌, ◌∙◌, rules}
+use Rattle.std.proofs.Common.{◌*◌}
 use Rattle.face.specs.Vec.{plus2, zero2}
 use Rattle.mesh.specs.Stored.{uv_from}
-use Rattle.mesh.proofs.Moving.{Adding, adding-none, adding-more, adding-done}
+use Rattle.mesh.proofs.Moving.{Adding}
 use Rattle.mesh.proofs.stored.sum_uvs.Given as goal
 
 abbrev pub invariant-loop-left : goal.invariant-loop-left

@@ -1,5 +1,5 @@
 -- `texture_scale`: the answer decides, and the uvs are moved. Assumes nothing.
-use Rattle.std.proofs.Common.{List, ap, rules}
+use Rattle.std.proofs.Common.{List, ap}
 use lib.Ieee.{Float}
 use Rattle.face.specs.declared.vec.Vec2.{Vec2}
 use Rattle.face.specs.declared.triangle.Counts.{Counts}

@@ -1,5 +1,5 @@
 -- `uv_centroid`: the answer decides, and the sum over its number is the middle. Assumes nothing.
-use Rattle.std.proofs.Common.{◌*◌, rules}
+use Rattle.std.proofs.Common.{◌*◌}
 use Rattle.face.specs.declared.vec.Vec2.{Vec2}
 use Rattle.face.specs.Vec.{plus2, zero2, over2}
 use Rattle.answer.specs.declared.answer.Answer.{Answer}

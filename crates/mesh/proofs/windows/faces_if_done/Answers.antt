@@ -1,5 +1,4 @@
 -- `faces_if_done`: by the cases of the answer. Assumes nothing.
-use Rattle.std.proofs.Common.{rules}
 use Rattle.mesh.proofs.windows.faces_if_done.Goals as goal
 
 pub returns-in-Refused : goal.returns-in-Refused

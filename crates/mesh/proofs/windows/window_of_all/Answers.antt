@@ -1,5 +1,4 @@
 -- `window_of_all`: from nothing on, what is counted. Assumes nothing.
-use Rattle.std.proofs.Common.{rules}
 use Rattle.mesh.proofs.windows.window_of_all.Goals as goal
 
 pub returns : goal.returns

@@ -1,9 +1,6 @@
 use borrow.Author.Rules.{rules}
 use mathlib.Core.Path.{refl, sym, ◌∙◌}
-use Prim.Native.Nat.{◌-◌}
-use lib.ListN.{length, get_or}
-use Rattle.placement.specs.Options.{means}
-use Rattle.placement.proofs.Counting.{Counted, counted-more, counted-not, counted-all}
+use Rattle.placement.proofs.Counting.{counted-more, counted-not, counted-all}
 use Rattle.placement.proofs.options.all_meant.Goals as goal
 
 pub loop-i-init : goal.loop-i-init

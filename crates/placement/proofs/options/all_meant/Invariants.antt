@@ -1,10 +1,8 @@
 -- `all_meant`: every mark before the one read means something. Assumes nothing.
-use borrow.Author.Rules.{rules}
-use mathlib.Core.Path.{refl, sym, ◌∙◌}
 use Prim.Native.Nat.{◌-◌}
 use lib.ListN.{length, get_or}
 use Rattle.placement.specs.Options.{means}
-use Rattle.placement.proofs.Counting.{Counted, counted-more, counted-not, counted-all}
+use Rattle.placement.proofs.Counting.{Counted}
 use Rattle.placement.proofs.options.all_meant.Given as goal
 
 abbrev pub invariant-loop-i : goal.invariant-loop-i

@@ -1,5 +1,4 @@
 -- `choice_names`: nothing is asked of an absent choice. Assumes nothing.
-use borrow.Author.Rules.{rules}
 use Rattle.placement.proofs.options.choice_names.Goals as goal
 
 pub returns-in-Absent : goal.returns-in-Absent

@@ -1,5 +1,4 @@
 -- `entry_at`: each read is that of its place. Assumes nothing.
-use borrow.Author.Rules.{rules}
 use native.Mathlib.Nat.{add-zero}
 use Rattle.placement.proofs.options.entry_at.Goals as goal
 

@@ -1,5 +1,4 @@
 -- `is_table`: its tests in order. Assumes nothing.
-use borrow.Author.Rules.{rules}
 use mathlib.Core.Path.{sym, ◌∙◌}
 use borrow.Author.Tests.{le-leb, lt-leb}
 use Rattle.placement.proofs.options.is_table.Goals as goal

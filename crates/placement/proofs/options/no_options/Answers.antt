@@ -1,5 +1,4 @@
 -- `no_options`: the default and no inset. Assumes nothing.
-use borrow.Author.Rules.{rules}
 use Rattle.placement.proofs.options.no_options.Goals as goal
 
 pub returns : goal.returns

@@ -1,5 +1,4 @@
 -- `option_at`: its tests in order, and the entry where both lists hold it. Assumes nothing.
-use borrow.Author.Rules.{rules}
 use borrow.Author.Tests.{eq-eqb, ne_eqb, lt-ltb, le-ltb}
 use Rattle.placement.proofs.options.option_at.Goals as goal
 

@@ -1,5 +1,4 @@
 -- `option_for`: by the cases of the choice. Assumes nothing.
-use borrow.Author.Rules.{rules}
 use Rattle.placement.proofs.options.option_for.Goals as goal
 
 pub returns-in-Absent : goal.returns-in-Absent

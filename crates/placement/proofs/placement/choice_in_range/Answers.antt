@@ -1,5 +1,4 @@
 -- `choice_in_range`: its two cases. Assumes nothing.
-use borrow.Author.Rules.{rules}
 use Rattle.placement.proofs.placement.choice_in_range.Goals as goal
 
 pub returns-in-With : goal.returns-in-With

@@ -1,5 +1,4 @@
 -- `half_turn`: its two cases. Assumes nothing.
-use borrow.Author.Rules.{rules}
 use Rattle.placement.proofs.placement.half_turn.Goals as goal
 
 pub returns-then-half : goal.returns-then-half

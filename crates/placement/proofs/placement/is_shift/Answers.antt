@@ -1,5 +1,4 @@
 -- `is_shift`: one test after the other. Assumes nothing.
-use borrow.Author.Rules.{rules}
 use Rattle.placement.proofs.placement.is_shift.Goals as goal
 
 pub returns-then-t : goal.returns-then-t

@@ -1,5 +1,4 @@
 -- `move_by`: its two cases. Assumes nothing.
-use borrow.Author.Rules.{rules}
 use Rattle.placement.proofs.placement.move_by.Goals as goal
 
 pub returns-then-s : goal.returns-then-s

@@ -1,5 +1,4 @@
 -- `place_point`: step by step. Assumes nothing.
-use borrow.Author.Rules.{rules}
 use Rattle.placement.proofs.placement.place_point.Goals as goal
 
 pub returns : goal.returns

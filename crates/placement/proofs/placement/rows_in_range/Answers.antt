@@ -1,5 +1,4 @@
 -- `rows_in_range`: one row after the other. Assumes nothing.
-use borrow.Author.Rules.{rules}
 use mathlib.Core.Path.{sym, ◌∙◌}
 use Rattle.placement.proofs.placement.rows_in_range.Goals as goal
 

@@ -1,5 +1,4 @@
 -- `scale_by`: its two cases. Assumes nothing.
-use borrow.Author.Rules.{rules}
 use Rattle.placement.proofs.placement.scale_by.Goals as goal
 
 pub returns-then-s : goal.returns-then-s

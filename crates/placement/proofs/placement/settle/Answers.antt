@@ -1,5 +1,4 @@
 -- `settle`: the offset is made plain, and the position moved by it. Assumes nothing.
-use borrow.Author.Rules.{rules}
 use Rattle.placement.proofs.placement.settle.Goals as goal
 
 pub returns : goal.returns

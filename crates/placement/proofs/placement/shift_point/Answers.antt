@@ -1,5 +1,4 @@
 -- `shift_point`: moved three times. Assumes nothing.
-use borrow.Author.Rules.{rules}
 use Rattle.placement.proofs.placement.shift_point.Goals as goal
 
 pub returns : goal.returns

@@ -1,5 +1,4 @@
 -- `stand_by`: with no origin. Assumes nothing.
-use borrow.Author.Rules.{rules}
 use Rattle.placement.proofs.placement.stand_by.Goals as goal
 
 pub returns : goal.returns

@@ -1,5 +1,4 @@
 -- `stand_from`: part by part. Assumes nothing.
-use borrow.Author.Rules.{rules}
 use Rattle.placement.proofs.placement.stand_from.Goals as goal
 
 pub returns : goal.returns

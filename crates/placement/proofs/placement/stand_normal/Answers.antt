@@ -1,5 +1,4 @@
 -- `stand_normal`: step by step. Assumes nothing.
-use borrow.Author.Rules.{rules}
 use Rattle.placement.proofs.placement.stand_normal.Goals as goal
 
 pub returns : goal.returns

@@ -1,5 +1,4 @@
 -- `stand_point`: placed, then moved by the origin. Assumes nothing.
-use borrow.Author.Rules.{rules}
 use Rattle.placement.proofs.placement.stand_point.Goals as goal
 
 pub returns : goal.returns

@@ -1,5 +1,4 @@
 -- `supply`: its two cases. Assumes nothing.
-use borrow.Author.Rules.{rules}
 use Rattle.placement.proofs.placement.supply.Goals as goal
 
 pub returns-in-Absent : goal.returns-in-Absent

@@ -1,5 +1,4 @@
 -- `supply_turn`: its two cases. Assumes nothing.
-use borrow.Author.Rules.{rules}
 use Rattle.placement.proofs.placement.supply_turn.Goals as goal
 
 pub returns-in-Absent : goal.returns-in-Absent

@@ -1,5 +1,4 @@
 -- `turn_by`: its two cases, row by row. Assumes nothing.
-use borrow.Author.Rules.{rules}
 use Rattle.placement.proofs.placement.turn_by.Goals as goal
 
 pub returns-then-t : goal.returns-then-t

@@ -1,5 +1,4 @@
 -- `turn_in_range`: its two cases. Assumes nothing.
-use borrow.Author.Rules.{rules}
 use Rattle.placement.proofs.placement.turn_in_range.Goals as goal
 
 pub returns-in-Rows : goal.returns-in-Rows

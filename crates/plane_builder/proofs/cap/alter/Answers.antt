@@ -1,5 +1,4 @@
 -- `alter`: the twelve uvs by their promise. Assumes nothing.
-use borrow.Author.Rules.{rules}
 use Rattle.plane_builder.proofs.cap.alter.Goals as goal
 
 pub returns : goal.returns

@@ -1,5 +1,4 @@
 -- `alter_first`: the six uvs by their promise, then the inset. Assumes nothing.
-use borrow.Author.Rules.{rules}
 use Rattle.plane_builder.proofs.cap.alter_first.Goals as goal
 
 pub returns : goal.returns

@@ -1,5 +1,4 @@
 -- `cap_hexagon`: with an inset or without, the hexagon is the same. Assumes nothing.
-use borrow.Author.Rules.{rules}
 use mathlib.Core.Path.{◌∙◌}
 use Rattle.face.specs.Face.{hexagon_of}
 use Rattle.plane_builder.specs.Cap.{corners_of}

@@ -1,5 +1,4 @@
 -- `corners_of`: six pairs of the list. Assumes nothing.
-use borrow.Author.Rules.{rules}
 use Rattle.plane_builder.proofs.cap.corners_of.Goals as goal
 
 pub returns : goal.returns

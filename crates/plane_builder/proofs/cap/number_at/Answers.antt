@@ -1,7 +1,6 @@
 -- `number_at`: what is past the end reads as NaN. Assumes nothing.
 use borrow.Author.Rules.{rules}
 use mathlib.Core.Path.{◌≡◌, refl, sym, ◌∙◌}
-use native.Mathlib.Omega.{arith}
 use lib.ListN.{get_or-eq_default}
 use lib.Ieee.{nan, binary32, div, of_bits}
 use Rattle.plane_builder.proofs.cap.number_at.Goals as goal

@@ -1,5 +1,4 @@
 -- `pair_at`: two numbers of the list. Assumes nothing.
-use borrow.Author.Rules.{rules}
 use Rattle.plane_builder.proofs.cap.pair_at.Goals as goal
 
 pub returns : goal.returns

@@ -1,5 +1,4 @@
 -- `put_cap`: the hexagon, laid. Assumes nothing.
-use borrow.Author.Rules.{rules}
 use Rattle.plane_builder.proofs.cap.put_cap.Goals as goal
 
 pub returns : goal.returns

@@ -1,5 +1,4 @@
 -- `digit`: the test is the definition's. Assumes nothing.
-use borrow.Author.Rules.{rules}
 use borrow.Author.Tests.{lt-ltb, le-ltb}
 use Rattle.sheet.proofs.digits.digit.Goals as goal
 

@@ -1,7 +1,4 @@
-use mathlib.Core.Path.{◌≡◌}
-use Prim.Native.Nat.{suc, ◌+◌, ◌≤◌}
 use native.Mathlib.Omega.{arith}
-use Rattle.sheet.specs.Digits.{digit_count}
 use Rattle.sheet.proofs.Numerals.{count_small, count-more, count_most}
 use Rattle.sheet.proofs.digits.digit_count.Goals as goal
 

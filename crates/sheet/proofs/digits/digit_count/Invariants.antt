@@ -1,9 +1,7 @@
 -- `digit_count`: a division by ten takes one digit off. Assumes nothing.
 use mathlib.Core.Path.{◌≡◌}
 use Prim.Native.Nat.{suc, ◌+◌, ◌≤◌}
-use native.Mathlib.Omega.{arith}
 use Rattle.sheet.specs.Digits.{digit_count}
-use Rattle.sheet.proofs.Numerals.{count_small, count-more, count_most}
 use Rattle.sheet.proofs.digits.digit_count.Given as goal
 
 abbrev pub invariant-loop-rest : goal.invariant-loop-rest

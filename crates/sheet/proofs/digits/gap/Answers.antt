@@ -1,5 +1,4 @@
 -- `gap`: the test is the definition's. Assumes nothing.
-use borrow.Author.Rules.{rules}
 use borrow.Author.Tests.{eq-eqb, ne_eqb}
 use Rattle.sheet.proofs.digits.gap.Goals as goal
 

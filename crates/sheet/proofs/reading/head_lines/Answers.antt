@@ -1,5 +1,4 @@
 -- `head_lines`: each part read gives the reader its next step. Assumes nothing.
-use borrow.Author.Rules.{rules}
 use borrow.Author.Tests.{eq-eqb, ne_eqb}
 use Rattle.sheet.specs.Readers.{head_of}
 use Rattle.sheet.proofs.reading.head_lines.Goals as goal

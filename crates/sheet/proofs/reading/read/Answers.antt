@@ -1,8 +1,6 @@
 -- `read`: each part read gives the reader its next step. Assumes nothing.
-use borrow.Author.Rules.{rules}
 use native.Mathlib.Omega.{arith}
 use mathlib.Core.Path.{sym, ◌∙◌}
-use borrow.Author.Tests.{not-true, not-false}
 use Rattle.sheet.specs.Readers.{sheet_of, reading}
 use Rattle.sheet.proofs.Steps.{ended, not-ended}
 use Rattle.sheet.proofs.reading.read.Goals as goal

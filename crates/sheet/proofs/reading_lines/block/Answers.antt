@@ -1,5 +1,4 @@
 -- `block`: at most six lines, so their numbers fit the places. Assumes nothing.
-use borrow.Author.Rules.{rules}
 use native.Mathlib.Nat.{mul-le-mul_left}
 use native.Mathlib.Omega.{arith}
 use borrow.Author.Tests.{le-leb, lt-leb}

@@ -1,5 +1,4 @@
 -- `count`: a number and the end of its line. Assumes nothing.
-use borrow.Author.Rules.{rules}
 use Rattle.sheet.specs.Readers.{count_of}
 use Rattle.sheet.proofs.reading_lines.count.Goals as goal
 

@@ -1,11 +1,8 @@
 use borrow.Author.Rules.{rules}
 use native.Mathlib.Nat.{sub-zero}
 use native.Mathlib.Omega.{arith}
-use mathlib.Core.Path.{◌≡◌, refl, ◌∙◌}
-use mathlib.Core.List.{[]}
-use Prim.Native.Nat.{◌≤◌, ◌-◌}
-use lib.ListN.{length, take, drop, length-set}
-use Rattle.sheet.specs.Readers.{numbers_from}
+use mathlib.Core.Path.{refl, ◌∙◌}
+use lib.ListN.{length-set}
 use Rattle.sheet.proofs.Steps.{drop_more, numbers_more, numbers-no-hex, numbers-no-mark, numbers-not, numbers-end}
 use Rattle.sheet.proofs.reading_lines.numbers.Goals as goal
 

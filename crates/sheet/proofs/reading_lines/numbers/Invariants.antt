@@ -1,13 +1,9 @@
 -- `numbers`: the first i places hold what is read, the others what they held. Assumes nothing.
-use borrow.Author.Rules.{rules}
-use native.Mathlib.Nat.{sub-zero}
-use native.Mathlib.Omega.{arith}
-use mathlib.Core.Path.{◌≡◌, refl, ◌∙◌}
+use mathlib.Core.Path.{◌≡◌}
 use mathlib.Core.List.{[]}
 use Prim.Native.Nat.{◌≤◌, ◌-◌}
-use lib.ListN.{length, take, drop, length-set}
+use lib.ListN.{length, take, drop}
 use Rattle.sheet.specs.Readers.{numbers_from}
-use Rattle.sheet.proofs.Steps.{drop_more, numbers_more, numbers-no-hex, numbers-no-mark, numbers-not, numbers-end}
 use Rattle.sheet.proofs.reading_lines.numbers.Given as goal
 
 abbrev pub invariant-loop-i : goal.invariant-loop-i

@@ -1,5 +1,4 @@
 -- `section`: a name and a count. Assumes nothing.
-use borrow.Author.Rules.{rules}
 use Rattle.sheet.specs.Readers.{section_of}
 use Rattle.sheet.proofs.reading_lines.section.Goals as goal
 

@@ -1,5 +1,4 @@
 -- `decimal`: its tests are the reader's. Assumes nothing.
-use borrow.Author.Rules.{rules}
 use native.Mathlib.Omega.{arith}
 use mathlib.Core.Path.{◌∙◌}
 use Rattle.sheet.proofs.Steps.{digit-inside, decimal-not, decimal-zero, decimal-first}

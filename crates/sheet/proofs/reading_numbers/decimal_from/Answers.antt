@@ -1,8 +1,5 @@
 use borrow.Author.Rules.{rules}
-use mathlib.Core.Path.{◌≡◌, refl, sym, ◌∙◌}
-use Prim.Native.Nat.{◌<◌, ◌-◌}
-use lib.ListN.{length, drop}
-use Rattle.sheet.specs.Readers.{decimal_from}
+use mathlib.Core.Path.{refl, sym, ◌∙◌}
 use Rattle.sheet.proofs.Steps.{decimal-end, decimal-stop, decimal-over, decimal-more}
 use Rattle.sheet.proofs.reading_numbers.decimal_from.Goals as goal
 

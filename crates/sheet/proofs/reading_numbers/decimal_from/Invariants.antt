@@ -1,10 +1,8 @@
 -- `decimal_from`: the digits before here are worth value, so the rest decide. Assumes nothing.
-use borrow.Author.Rules.{rules}
-use mathlib.Core.Path.{◌≡◌, refl, sym, ◌∙◌}
+use mathlib.Core.Path.{◌≡◌}
 use Prim.Native.Nat.{◌<◌, ◌-◌}
 use lib.ListN.{length, drop}
 use Rattle.sheet.specs.Readers.{decimal_from}
-use Rattle.sheet.proofs.Steps.{decimal-end, decimal-stop, decimal-over, decimal-more}
 use Rattle.sheet.proofs.reading_numbers.decimal_from.Given as goal
 
 abbrev pub invariant-loop-here : goal.invariant-loop-here

@@ -1,5 +1,4 @@
 -- `digit_at`: what the byte at its place is worth. Assumes nothing.
-use borrow.Author.Rules.{rules}
 use mathlib.Core.Path.{◌∙◌}
 use Rattle.sheet.proofs.Steps.{digit-here, digit-end}
 use Rattle.sheet.proofs.reading_numbers.digit_at.Goals as goal

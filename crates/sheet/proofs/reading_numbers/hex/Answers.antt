@@ -1,9 +1,6 @@
 use borrow.Author.Rules.{rules}
 use native.Mathlib.Omega.{arith}
-use mathlib.Core.Path.{◌≡◌, refl, sym, ◌∙◌}
-use Prim.Native.Nat.{◌≤◌, ◌<◌, ◌-◌, ◌^◌}
-use lib.ListN.{drop}
-use Rattle.sheet.specs.Readers.{hex_of, hex_from}
+use mathlib.Core.Path.{refl, sym, ◌∙◌}
 use Rattle.sheet.proofs.Steps.{digit-inside, hex-more, hex-not, hex-room, hex-grown, hex-whole}
 use Rattle.sheet.proofs.reading_numbers.hex.Goals as goal
 

@@ -1,11 +1,8 @@
 -- `hex`: k digits are read and worth value, below 16 ^ k. Assumes nothing.
-use borrow.Author.Rules.{rules}
-use native.Mathlib.Omega.{arith}
-use mathlib.Core.Path.{◌≡◌, refl, sym, ◌∙◌}
+use mathlib.Core.Path.{◌≡◌}
 use Prim.Native.Nat.{◌≤◌, ◌<◌, ◌-◌, ◌^◌}
 use lib.ListN.{drop}
 use Rattle.sheet.specs.Readers.{hex_of, hex_from}
-use Rattle.sheet.proofs.Steps.{digit-inside, hex-more, hex-not, hex-room, hex-grown, hex-whole}
 use Rattle.sheet.proofs.reading_numbers.hex.Given as goal
 
 abbrev pub invariant-loop-k : goal.invariant-loop-k

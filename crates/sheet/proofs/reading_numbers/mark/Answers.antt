@@ -1,5 +1,4 @@
 -- `mark`: the byte at its place, or the end. Assumes nothing.
-use borrow.Author.Rules.{rules}
 use Rattle.sheet.proofs.Steps.{mark-here, mark-other, mark-end}
 use Rattle.sheet.proofs.reading_numbers.mark.Goals as goal
 

@@ -1,10 +1,8 @@
 -- `word`: the bytes before i agree, so the rest decide. Assumes nothing.
-use borrow.Author.Rules.{rules}
-use mathlib.Core.Path.{◌≡◌, refl, sym, ◌∙◌}
+use mathlib.Core.Path.{◌≡◌}
 use Prim.Native.Nat.{◌≤◌, ◌-◌}
 use lib.ListN.{length, drop}
 use Rattle.sheet.specs.Readers.{word_of}
-use Rattle.sheet.proofs.Steps.{word_more, word-not, word_end}
 use Rattle.sheet.proofs.reading_numbers.word.Given as goal
 
 abbrev pub invariant-loop-i : goal.invariant-loop-i

@@ -1,5 +1,4 @@
 -- `put_mesh`: the four parts, one after the other, are the text. Assumes nothing.
-use borrow.Author.Rules.{rules}
 use native.Mathlib.Omega.{arith}
 use Rattle.sheet.proofs.Rooms.{whole_is}
 use Rattle.sheet.proofs.Whole.{room-1, room-2, room-3, room-4, put-parts}

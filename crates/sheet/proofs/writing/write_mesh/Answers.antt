@@ -1,6 +1,4 @@
 -- `write_mesh`: the two tests are the promise's. Assumes nothing.
-use borrow.Author.Rules.{rules}
-use borrow.Author.Tests.{not-true, not-false}
 use Rattle.sheet.proofs.Rooms.{whole_is, is-whole}
 use Rattle.sheet.proofs.Whole.{has_room, written-mesh, not-whole, no_room}
 use Rattle.sheet.proofs.writing.write_mesh.Goals as goal

@@ -1,5 +1,4 @@
 -- `write_refusal`: the length that is tested is the text's. Assumes nothing.
-use borrow.Author.Rules.{rules}
 use native.Mathlib.Omega.{arith}
 use Prim.Native.Nat.{◌≤◌}
 use lib.ListN.{length}

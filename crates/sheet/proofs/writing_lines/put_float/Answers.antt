@@ -1,5 +1,4 @@
 -- `put_float`: the digits, and what follows them. Assumes nothing.
-use borrow.Author.Rules.{rules}
 use native.Mathlib.Omega.{arith}
 use Rattle.sheet.proofs.Numerals.{length_digits}
 use Rattle.sheet.proofs.Pieces.{put-length, put_next}

@@ -1,8 +1,6 @@
-use borrow.Author.Rules.{rules}
 use native.Mathlib.Omega.{arith}
-use Prim.Native.Nat.{◌-◌}
-use Rattle.sheet.proofs.Pieces.{Lines, lines_none, lines-room, lines_more, lines-all, put-length}
-use Rattle.sheet.specs.Meshes.{float_word, float_lines}
+use Rattle.sheet.proofs.Pieces.{lines_none, lines-room, lines_more, lines-all, put-length}
+use Rattle.sheet.specs.Meshes.{float_lines}
 use Rattle.sheet.proofs.writing_lines.put_float_lines.Goals as goal
 
 pub loop-k-init : goal.loop-k-init

@@ -1,5 +1,4 @@
 -- `put_floats`: the heading, and its lines. Assumes nothing.
-use borrow.Author.Rules.{rules}
 use Prim.Native.Nat.{◌*◌}
 use Rattle.sheet.specs.Digits.{heading}
 use Rattle.sheet.specs.Meshes.{float_lines}

@@ -1,5 +1,4 @@
 -- `put_heading`: the word, the number and the line's end. Assumes nothing.
-use borrow.Author.Rules.{rules}
 use native.Mathlib.Omega.{arith}
 use mathlib.Core.List.{◌∷◌, [], ◌++◌}
 use Rattle.sheet.specs.Digits.{decimal}

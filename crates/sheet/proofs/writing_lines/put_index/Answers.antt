@@ -1,5 +1,4 @@
 -- `put_index`: the digits, and what follows them. Assumes nothing.
-use borrow.Author.Rules.{rules}
 use native.Mathlib.Omega.{arith}
 use mathlib.Core.List.{◌∷◌, []}
 use lib.ListN.{get_or}

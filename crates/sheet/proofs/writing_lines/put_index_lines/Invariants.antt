@@ -1,9 +1,6 @@
 -- `put_index_lines`: a turn writes one number more. Assumes nothing.
-use borrow.Author.Rules.{rules}
-use native.Mathlib.Omega.{arith}
-use Prim.Native.Nat.{◌-◌}
-use Rattle.sheet.proofs.Pieces.{Lines, lines_none, lines-room, lines_more, lines-all, put-length}
-use Rattle.sheet.specs.Meshes.{index_word, index_lines}
+use Rattle.sheet.proofs.Pieces.{Lines}
+use Rattle.sheet.specs.Meshes.{index_word}
 use Rattle.sheet.proofs.writing_lines.put_index_lines.Given as goal
 
 abbrev pub invariant-loop-k : goal.invariant-loop-k

@@ -1,5 +1,4 @@
 -- `put_indices`: the heading, and its lines. Assumes nothing.
-use borrow.Author.Rules.{rules}
 use Rattle.sheet.specs.Digits.{heading}
 use Rattle.sheet.specs.Meshes.{indices_word, index_lines}
 use Rattle.sheet.proofs.Pieces.{room-first, room_next, put_next}

@@ -1,5 +1,4 @@
 -- `put_byte`: one store. Assumes nothing.
-use borrow.Author.Rules.{rules}
 use mathlib.Core.Path.{refl, sym}
 use Rattle.buffers.proofs.Laid.{laid_one}
 use Rattle.sheet.proofs.writing_numbers.put_byte.Goals as goal

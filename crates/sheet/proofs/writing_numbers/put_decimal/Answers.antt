@@ -1,5 +1,4 @@
 -- `put_decimal`: as many digits as counted. Assumes nothing.
-use borrow.Author.Rules.{rules}
 use native.Mathlib.Omega.{arith}
 use Rattle.sheet.specs.Digits.{digit_count}
 use Rattle.sheet.proofs.Numerals.{length_digits}

@@ -1,11 +1,7 @@
-use borrow.Author.Rules.{rules}
 use mathlib.Core.Path.{◌≡◌, refl, sym, ◌∙◌}
-use Prim.Native.Nat.{◌≤◌}
 use native.Mathlib.Omega.{arith}
 use native.Mathlib.Nat.{mod-lt}
-use lib.ListN.{length, length-set}
-use Rattle.buffers.specs.Laying.{laid}
-use Rattle.sheet.specs.Digits.{digits}
+use lib.ListN.{length-set}
 use Rattle.sheet.proofs.Numerals.{one_written, all-written}
 use Rattle.sheet.proofs.writing_numbers.put_digits.Goals as goal
 

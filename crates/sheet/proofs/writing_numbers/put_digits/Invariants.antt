@@ -1,13 +1,9 @@
 -- `put_digits`: what is left to write, once written, makes the whole. Assumes nothing.
-use borrow.Author.Rules.{rules}
-use mathlib.Core.Path.{◌≡◌, refl, sym, ◌∙◌}
+use mathlib.Core.Path.{◌≡◌}
 use Prim.Native.Nat.{◌≤◌}
-use native.Mathlib.Omega.{arith}
-use native.Mathlib.Nat.{mod-lt}
-use lib.ListN.{length, length-set}
+use lib.ListN.{length}
 use Rattle.buffers.specs.Laying.{laid}
 use Rattle.sheet.specs.Digits.{digits}
-use Rattle.sheet.proofs.Numerals.{one_written, all-written}
 use Rattle.sheet.proofs.writing_numbers.put_digits.Given as goal
 
 abbrev pub invariant-loop-k : goal.invariant-loop-k

@@ -1,5 +1,4 @@
 -- `put_hex`: eight digits. Assumes nothing.
-use borrow.Author.Rules.{rules}
 use native.Mathlib.Omega.{arith}
 use mathlib.Core.Path.{refl}
 use Rattle.sheet.proofs.Numerals.{length_digits}

@@ -1,11 +1,9 @@
-use borrow.Author.Rules.{rules}
 use native.Mathlib.Omega.{arith}
-use Prim.Native.Nat.{◌-◌}
 use mathlib.Core.Path.{◌≡◌, refl, sym, ap, ◌∙◌}
 use lib.ListN.{length}
 use Rattle.face.proofs.Filling.{each_all}
 use Rattle.buffers.specs.Laying.{laid}
-use Rattle.buffers.proofs.Laid.{laid-nothing, Copied, copied_more}
+use Rattle.buffers.proofs.Laid.{laid-nothing, copied_more}
 use Rattle.sheet.proofs.writing_numbers.put_word.Goals as goal
 
 pub loop-k-init : goal.loop-k-init

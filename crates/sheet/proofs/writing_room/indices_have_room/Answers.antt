@@ -1,10 +1,4 @@
-use borrow.Author.Rules.{rules}
 use native.Mathlib.Omega.{arith}
-use mathlib.Core.Path.{◌≡◌}
-use Prim.Native.Nat.{◌-◌, ◌+◌, ◌≤◌}
-use lib.ListN.{length}
-use Rattle.face.specs.Lists.{chain}
-use Rattle.sheet.specs.Meshes.{index_word}
 use Rattle.sheet.proofs.Rooms.{indices-over, indices-more, indices-within}
 use Rattle.sheet.proofs.writing_room.indices_have_room.Goals as goal
 

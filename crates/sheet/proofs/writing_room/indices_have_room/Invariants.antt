@@ -1,12 +1,9 @@
 -- `indices_have_room`: what is left of the room and what is taken of it are the whole. Assumes nothing.
-use borrow.Author.Rules.{rules}
-use native.Mathlib.Omega.{arith}
 use mathlib.Core.Path.{◌≡◌}
-use Prim.Native.Nat.{◌-◌, ◌+◌, ◌≤◌}
+use Prim.Native.Nat.{◌+◌, ◌≤◌}
 use lib.ListN.{length}
 use Rattle.face.specs.Lists.{chain}
 use Rattle.sheet.specs.Meshes.{index_word}
-use Rattle.sheet.proofs.Rooms.{indices-over, indices-more, indices-within}
 use Rattle.sheet.proofs.writing_room.indices_have_room.Given as goal
 
 abbrev pub invariant-loop-k : goal.invariant-loop-k
