@@ -1,4 +1,4 @@
--- Of each public function: any two results that its promise allows are equal, and so is all that the two calls leave in what was lent to be written. `Learnt` is what a caller learns of a call: the function's own clauses as the prover reads them, so no promise is written here a second time, but for two walks. Equal as values: the logic has one NaN, so its pattern is left open. `tools/determined` finds a public function that is missing. Assumes nothing.
+-- Of each public function: any two results that its promise allows are equal, and so is all that the two calls leave in what was lent to be written. `Learnt` is what a caller learns of a call: the function's own clauses as the prover reads them, so no promise is written here a second time, but for the two loads. Equal as values: the logic has one NaN, so its pattern is left open. `tools/determined` finds a public function that is missing. Assumes nothing.
 use mathlib.Core.Path.{◌≡◌, refl, ap}
 use mathlib.Core.List.{List, [], ◌∷◌}
 use Prim.Native.Nat.{ℕ, ◌≤◌}
@@ -14,802 +14,808 @@ use contract.Lifetimes.{Lfts}
 use contract.Monad.{Fun}
 use denote.Triple.Entry.{Args}
 use denote.Triple.Clauses.{Lasts}
-use denote.Ref.{Bor}
+use denote.MutBor.{MutBor}
 use Rattle.boundary.specs.ToC.{answer_to_c}
 use Rattle.cells.specs.declared.Cell.{Cell}
 use Rattle.cells.specs.Cells.{load_answer, numbers_loaded, neighbours_loaded}
 use Rattle.arith.proofs.Determined.{determined}
 use Rattle.promises.specs.Fixes.{Promise, Fixes, Says}
-use Rattle.arith.proofs as arith
-use Rattle.face.proofs as face
-use Rattle.patterns.proofs as patterns
-use Rattle.insetting.proofs as insetting
-use Rattle.answer.proofs as answer
-use Rattle.placement.proofs as placement
-use Rattle.buffers.proofs as buffers
-use Rattle.mesh.proofs as mesh
-use Rattle.plane_builder.proofs as plane_builder
-use Rattle.cheap_column.proofs as cheap_column
-use Rattle.merge.proofs as merge
-use Rattle.stl.proofs as stl
-use Rattle.stl_writing.proofs as stl_writing
-use Rattle.stl_reading.proofs as stl_reading
-use Rattle.column.proofs as column
-use Rattle.boundary.proofs as boundary
-use Rattle.column_builder.proofs as column_builder
-use Rattle.heightmap.proofs as heightmap
-use Rattle.heightmap_plan.proofs as heightmap_plan
-use Rattle.heightmap_why.proofs as heightmap_why
-use Rattle.heightmap_faces.proofs as heightmap_faces
-use Rattle.heightmap_laying.proofs as heightmap_laying
-use Rattle.heightmap_builder.proofs as heightmap_builder
-use Rattle.sheet.proofs as sheet
-use Rattle.cells.proofs as cells
-use Rattle.exports.proofs as exports
+use Rattle.arith
+use Rattle.face
+use Rattle.patterns
+use Rattle.insetting
+use Rattle.answer
+use Rattle.placement
+use Rattle.buffers
+use Rattle.mesh
+use Rattle.plane_builder
+use Rattle.cheap_column
+use Rattle.merge
+use Rattle.stl
+use Rattle.stl_writing
+use Rattle.stl_reading
+use Rattle.column
+use Rattle.boundary
+use Rattle.column_builder
+use Rattle.heightmap
+use Rattle.heightmap_plan
+use Rattle.heightmap_why
+use Rattle.heightmap_faces
+use Rattle.heightmap_laying
+use Rattle.heightmap_builder
+use Rattle.sheet
+use Rattle.cells
+use Rattle.exports
 
 -- ---- what fixes nothing: no promise, an inequality, a buffer that is left out
-pub no-promise : Fixes patterns.digit_value.ended (λ κs a x e. Unit {0}) → ⊥
+pub no-promise : Fixes patterns.specs.contracts.digit_value.ended (λ κs a x e. Unit {0}) → ⊥
 no-promise f = let z : ◌≡◌ {A = ℕ} 0 1 = (f tt (0, tt) 0 1 (tt, tt) (tt, tt) tt tt).0 in omega arith
 
-pub inequality : Fixes patterns.digit_value.ended (λ κs a x e. x ≤ 16) → ⊥
+pub inequality : Fixes patterns.specs.contracts.digit_value.ended (λ κs a x e. x ≤ 16) → ⊥
 inequality f = let z : ◌≡◌ {A = ℕ} 0 1 = (f tt (0, tt) 0 1 (tt, tt) (tt, tt) (omega arith) (omega arith)).0 in omega arith
 
-pub left_out : (κs : Lfts 2) (a : Args sheet.write_answer.signature κs) → Fixes sheet.write_answer.ended (λ κs a x e. x ≡ 0) → ⊥
+pub left_out : (κs : Lfts 2) (a : Args sheet.specs.contracts.write_answer.signature κs) → Fixes sheet.specs.contracts.write_answer.ended (λ κs a x e. x ≡ 0) → ⊥
 left_out κs a f =
     let same = (f κs a 0 0 (tt, ([], tt)) (tt, (0 ∷ [], tt)) refl refl).1 in
-    let z : ◌≡◌ {A = ℕ} 0 1 = ap (λ (w : Lasts sheet.write_answer.ended κs a). length w.1.0) same in
+    let z : ◌≡◌ {A = ℕ} 0 1 = ap (λ (w : Lasts sheet.specs.contracts.write_answer.ended κs a). length w.1.0) same in
     omega arith
 
 -- ---- arith
-pub arith-root : Fixes arith.root.ended arith.root.Reads.Learnt
+pub arith-root : Fixes arith.specs.contracts.root.ended arith.proofs.root.Reads.Learnt
 arith-root κs a x y v w p q = (determined p q, refl)
 
-pub arith-fused : Fixes arith.fused.ended arith.fused.Reads.Learnt
+pub arith-fused : Fixes arith.specs.contracts.fused.ended arith.proofs.fused.Reads.Learnt
 arith-fused κs a x y v w p q = (determined p q, refl)
 
 -- ---- face
-pub face-face-raise : Fixes face.face.raise.ended face.face.raise.Reads.Learnt
+pub face-face-raise : Fixes face.specs.contracts.face.raise.ended face.proofs.face.raise.Reads.Learnt
 face-face-raise κs a x y v w p q = (determined p q, refl)
 
-pub face-face-new-quad : Fixes face.face.new_quad.ended face.face.new_quad.Reads.Learnt
+pub face-face-new-quad : Fixes face.specs.contracts.face.new_quad.ended face.proofs.face.new_quad.Reads.Learnt
 face-face-new-quad κs a x y v w p q = (determined p q, refl)
 
-pub face-face-new-bounded-quad : Fixes face.face.new_bounded_quad.ended face.face.new_bounded_quad.Reads.Learnt
+pub face-face-new-bounded-quad : Fixes face.specs.contracts.face.new_bounded_quad.ended face.proofs.face.new_bounded_quad.Reads.Learnt
 face-face-new-bounded-quad κs a x y v w p q = (determined p q, refl)
 
-pub face-face-raise-six : Fixes face.face.raise_six.ended face.face.raise_six.Reads.Learnt
+pub face-face-raise-six : Fixes face.specs.contracts.face.raise_six.ended face.proofs.face.raise_six.Reads.Learnt
 face-face-raise-six κs a x y v w p q = (determined p q, refl)
 
-pub face-face-new-hexagon : Fixes face.face.new_hexagon.ended face.face.new_hexagon.Reads.Learnt
+pub face-face-new-hexagon : Fixes face.specs.contracts.face.new_hexagon.ended face.proofs.face.new_hexagon.Reads.Learnt
 face-face-new-hexagon κs a x y v w p q = (determined p q, refl)
 
-pub face-triangle-quad-triangle : Fixes face.triangle.quad_triangle.ended face.triangle.quad_triangle.Reads.Learnt
+pub face-triangle-quad-triangle : Fixes face.specs.contracts.triangle.quad_triangle.ended face.proofs.triangle.quad_triangle.Reads.Learnt
 face-triangle-quad-triangle κs a x y v w p q = (determined p q, refl)
 
-pub face-triangle-hexagon-triangle : Fixes face.triangle.hexagon_triangle.ended face.triangle.hexagon_triangle.Reads.Learnt
+pub face-triangle-hexagon-triangle : Fixes face.specs.contracts.triangle.hexagon_triangle.ended face.proofs.triangle.hexagon_triangle.Reads.Learnt
 face-triangle-hexagon-triangle κs a x y v w p q = (determined p q, refl)
 
-pub face-triangle-quad-counts : Fixes face.triangle.quad_counts.ended face.triangle.quad_counts.Reads.Learnt
+pub face-triangle-quad-counts : Fixes face.specs.contracts.triangle.quad_counts.ended face.proofs.triangle.quad_counts.Reads.Learnt
 face-triangle-quad-counts κs a x y v w p q = (determined p q, refl)
 
-pub face-triangle-hexagon-counts : Fixes face.triangle.hexagon_counts.ended face.triangle.hexagon_counts.Reads.Learnt
+pub face-triangle-hexagon-counts : Fixes face.specs.contracts.triangle.hexagon_counts.ended face.proofs.triangle.hexagon_counts.Reads.Learnt
 face-triangle-hexagon-counts κs a x y v w p q = (determined p q, refl)
 
-pub face-uv-mapping-default-options : Fixes face.uv_mapping.default_options.ended face.uv_mapping.default_options.Reads.Learnt
+pub face-uv-mapping-default-options : Fixes face.specs.contracts.uv_mapping.default_options.ended face.proofs.uv_mapping.default_options.Reads.Learnt
 face-uv-mapping-default-options κs a x y v w p q = (determined p q, refl)
 
-pub face-uv-mapping-alter-uv : Fixes face.uv_mapping.alter_uv.ended face.uv_mapping.alter_uv.Reads.Learnt
+pub face-uv-mapping-alter-uv : Fixes face.specs.contracts.uv_mapping.alter_uv.ended face.proofs.uv_mapping.alter_uv.Reads.Learnt
 face-uv-mapping-alter-uv κs a x y v w p q = (determined p q, refl)
 
-pub face-uv-mapping-alter-four : Fixes face.uv_mapping.alter_four.ended face.uv_mapping.alter_four.Reads.Learnt
+pub face-uv-mapping-alter-four : Fixes face.specs.contracts.uv_mapping.alter_four.ended face.proofs.uv_mapping.alter_four.Reads.Learnt
 face-uv-mapping-alter-four κs a x y v w p q = (determined p q, refl)
 
-pub face-uv-mapping-alter-six : Fixes face.uv_mapping.alter_six.ended face.uv_mapping.alter_six.Reads.Learnt
+pub face-uv-mapping-alter-six : Fixes face.specs.contracts.uv_mapping.alter_six.ended face.proofs.uv_mapping.alter_six.Reads.Learnt
 face-uv-mapping-alter-six κs a x y v w p q = (determined p q, refl)
 
-pub face-uv-mapping-alter-twelve : Fixes face.uv_mapping.alter_twelve.ended face.uv_mapping.alter_twelve.Reads.Learnt
+pub face-uv-mapping-alter-twelve : Fixes face.specs.contracts.uv_mapping.alter_twelve.ended face.proofs.uv_mapping.alter_twelve.Reads.Learnt
 face-uv-mapping-alter-twelve κs a x y v w p q = (determined p q, refl)
 
-pub face-uv-mapping-wrap-uv : Fixes face.uv_mapping.wrap_uv.ended face.uv_mapping.wrap_uv.Reads.Learnt
+pub face-uv-mapping-wrap-uv : Fixes face.specs.contracts.uv_mapping.wrap_uv.ended face.proofs.uv_mapping.wrap_uv.Reads.Learnt
 face-uv-mapping-wrap-uv κs a x y v w p q = (determined p q, refl)
 
-pub face-uv-mapping-wrap-six : Fixes face.uv_mapping.wrap_six.ended face.uv_mapping.wrap_six.Reads.Learnt
+pub face-uv-mapping-wrap-six : Fixes face.specs.contracts.uv_mapping.wrap_six.ended face.proofs.uv_mapping.wrap_six.Reads.Learnt
 face-uv-mapping-wrap-six κs a x y v w p q = (determined p q, refl)
 
-pub face-inset-is-none : Fixes face.inset.is_none.ended face.inset.is_none.Reads.Learnt
+pub face-inset-is-none : Fixes face.specs.contracts.inset.is_none.ended face.proofs.inset.is_none.Reads.Learnt
 face-inset-is-none κs a x y v w p q = (determined p q, refl)
 
-pub face-vec-add2 : Fixes face.vec.add2.ended face.vec.add2.Reads.Learnt
+pub face-vec-add2 : Fixes face.specs.contracts.vec.add2.ended face.proofs.vec.add2.Reads.Learnt
 face-vec-add2 κs a x y v w p q = (determined p q, refl)
 
-pub face-vec-sub2 : Fixes face.vec.sub2.ended face.vec.sub2.Reads.Learnt
+pub face-vec-sub2 : Fixes face.specs.contracts.vec.sub2.ended face.proofs.vec.sub2.Reads.Learnt
 face-vec-sub2 κs a x y v w p q = (determined p q, refl)
 
-pub face-vec-scale2 : Fixes face.vec.scale2.ended face.vec.scale2.Reads.Learnt
+pub face-vec-scale2 : Fixes face.specs.contracts.vec.scale2.ended face.proofs.vec.scale2.Reads.Learnt
 face-vec-scale2 κs a x y v w p q = (determined p q, refl)
 
-pub face-vec-add3 : Fixes face.vec.add3.ended face.vec.add3.Reads.Learnt
+pub face-vec-add3 : Fixes face.specs.contracts.vec.add3.ended face.proofs.vec.add3.Reads.Learnt
 face-vec-add3 κs a x y v w p q = (determined p q, refl)
 
-pub face-vec-sub3 : Fixes face.vec.sub3.ended face.vec.sub3.Reads.Learnt
+pub face-vec-sub3 : Fixes face.specs.contracts.vec.sub3.ended face.proofs.vec.sub3.Reads.Learnt
 face-vec-sub3 κs a x y v w p q = (determined p q, refl)
 
-pub face-vec-scale3 : Fixes face.vec.scale3.ended face.vec.scale3.Reads.Learnt
+pub face-vec-scale3 : Fixes face.specs.contracts.vec.scale3.ended face.proofs.vec.scale3.Reads.Learnt
 face-vec-scale3 κs a x y v w p q = (determined p q, refl)
 
-pub face-vec-squared2 : Fixes face.vec.squared2.ended face.vec.squared2.Reads.Learnt
+pub face-vec-squared2 : Fixes face.specs.contracts.vec.squared2.ended face.proofs.vec.squared2.Reads.Learnt
 face-vec-squared2 κs a x y v w p q = (determined p q, refl)
 
-pub face-vec-squared3 : Fixes face.vec.squared3.ended face.vec.squared3.Reads.Learnt
+pub face-vec-squared3 : Fixes face.specs.contracts.vec.squared3.ended face.proofs.vec.squared3.Reads.Learnt
 face-vec-squared3 κs a x y v w p q = (determined p q, refl)
 
-pub face-vec-len2 : Fixes face.vec.len2.ended face.vec.len2.Reads.Learnt
+pub face-vec-len2 : Fixes face.specs.contracts.vec.len2.ended face.proofs.vec.len2.Reads.Learnt
 face-vec-len2 κs a x y v w p q = (determined p q, refl)
 
-pub face-vec-len3 : Fixes face.vec.len3.ended face.vec.len3.Reads.Learnt
+pub face-vec-len3 : Fixes face.specs.contracts.vec.len3.ended face.proofs.vec.len3.Reads.Learnt
 face-vec-len3 κs a x y v w p q = (determined p q, refl)
 
-pub face-vec-one-over : Fixes face.vec.one_over.ended face.vec.one_over.Reads.Learnt
+pub face-vec-one-over : Fixes face.specs.contracts.vec.one_over.ended face.proofs.vec.one_over.Reads.Learnt
 face-vec-one-over κs a x y v w p q = (determined p q, refl)
 
-pub face-vec-normalize2 : Fixes face.vec.normalize2.ended face.vec.normalize2.Reads.Learnt
+pub face-vec-normalize2 : Fixes face.specs.contracts.vec.normalize2.ended face.proofs.vec.normalize2.Reads.Learnt
 face-vec-normalize2 κs a x y v w p q = (determined p q, refl)
 
-pub face-vec-normalize3 : Fixes face.vec.normalize3.ended face.vec.normalize3.Reads.Learnt
+pub face-vec-normalize3 : Fixes face.specs.contracts.vec.normalize3.ended face.proofs.vec.normalize3.Reads.Learnt
 face-vec-normalize3 κs a x y v w p q = (determined p q, refl)
 
-pub face-vec-centroid2-four : Fixes face.vec.centroid2_four.ended face.vec.centroid2_four.Reads.Learnt
+pub face-vec-centroid2-four : Fixes face.specs.contracts.vec.centroid2_four.ended face.proofs.vec.centroid2_four.Reads.Learnt
 face-vec-centroid2-four κs a x y v w p q = (determined p q, refl)
 
-pub face-vec-centroid2-six : Fixes face.vec.centroid2_six.ended face.vec.centroid2_six.Reads.Learnt
+pub face-vec-centroid2-six : Fixes face.specs.contracts.vec.centroid2_six.ended face.proofs.vec.centroid2_six.Reads.Learnt
 face-vec-centroid2-six κs a x y v w p q = (determined p q, refl)
 
-pub face-vec-centroid3-four : Fixes face.vec.centroid3_four.ended face.vec.centroid3_four.Reads.Learnt
+pub face-vec-centroid3-four : Fixes face.specs.contracts.vec.centroid3_four.ended face.proofs.vec.centroid3_four.Reads.Learnt
 face-vec-centroid3-four κs a x y v w p q = (determined p q, refl)
 
-pub face-vec-centroid3-six : Fixes face.vec.centroid3_six.ended face.vec.centroid3_six.Reads.Learnt
+pub face-vec-centroid3-six : Fixes face.specs.contracts.vec.centroid3_six.ended face.proofs.vec.centroid3_six.Reads.Learnt
 face-vec-centroid3-six κs a x y v w p q = (determined p q, refl)
 
 -- ---- patterns
-pub patterns-float : Fixes patterns.float.ended patterns.float.Reads.Learnt
+pub patterns-float : Fixes patterns.specs.contracts.float.ended patterns.proofs.float.Reads.Learnt
 patterns-float κs a x y v w p q = (determined p q, refl)
 
-pub patterns-pattern : Fixes patterns.pattern.ended patterns.pattern.Reads.Learnt
+pub patterns-pattern : Fixes patterns.specs.contracts.pattern.ended patterns.proofs.pattern.Reads.Learnt
 patterns-pattern κs a x y v w p q = (determined p q, refl)
 
-pub patterns-digit-value : Fixes patterns.digit_value.ended patterns.digit_value.Reads.Learnt
+pub patterns-digit-value : Fixes patterns.specs.contracts.digit_value.ended patterns.proofs.digit_value.Reads.Learnt
 patterns-digit-value κs a x y v w p q = (determined p q, refl)
 
-pub patterns-bytes-of : Fixes patterns.bytes_of.ended patterns.bytes_of.Reads.Learnt
+pub patterns-bytes-of : Fixes patterns.specs.contracts.bytes_of.ended patterns.proofs.bytes_of.Reads.Learnt
 patterns-bytes-of κs a x y v w p q = (determined p q, refl)
 
-pub patterns-of-bytes : Fixes patterns.of_bytes.ended patterns.of_bytes.Reads.Learnt
+pub patterns-of-bytes : Fixes patterns.specs.contracts.of_bytes.ended patterns.proofs.of_bytes.Reads.Learnt
 patterns-of-bytes κs a x y v w p q = (determined p q, refl)
 
 -- ---- insetting
-pub insetting-inset-quad : Fixes insetting.inset_quad.ended insetting.inset_quad.Reads.Learnt
+pub insetting-inset-quad : Fixes insetting.specs.contracts.inset_quad.ended insetting.proofs.inset_quad.Reads.Learnt
 insetting-inset-quad κs a x y v w p q = (determined p q, refl)
 
-pub insetting-inset-hexagon : Fixes insetting.inset_hexagon.ended insetting.inset_hexagon.Reads.Learnt
+pub insetting-inset-hexagon : Fixes insetting.specs.contracts.inset_hexagon.ended insetting.proofs.inset_hexagon.Reads.Learnt
 insetting-inset-hexagon κs a x y v w p q = (determined p q, refl)
 
 -- ---- answer
-pub answer-answer-number-of : Fixes answer.answer.number_of.ended answer.answer.number_of.Reads.Learnt
+pub answer-answer-number-of : Fixes answer.specs.contracts.answer.number_of.ended answer.proofs.answer.number_of.Reads.Learnt
 answer-answer-number-of κs a x y v w p q = (determined p q, refl)
 
-pub answer-answer-counts-of : Fixes answer.answer.counts_of.ended answer.answer.counts_of.Reads.Learnt
+pub answer-answer-counts-of : Fixes answer.specs.contracts.answer.counts_of.ended answer.proofs.answer.counts_of.Reads.Learnt
 answer-answer-counts-of κs a x y v w p q = (determined p q, refl)
 
-pub answer-answer-need-of : Fixes answer.answer.need_of.ended answer.answer.need_of.Reads.Learnt
+pub answer-answer-need-of : Fixes answer.specs.contracts.answer.need_of.ended answer.proofs.answer.need_of.Reads.Learnt
 answer-answer-need-of κs a x y v w p q = (determined p q, refl)
 
-pub answer-answer-limit : Fixes answer.answer.limit.ended answer.answer.limit.Reads.Learnt
+pub answer-answer-limit : Fixes answer.specs.contracts.answer.limit.ended answer.proofs.answer.limit.Reads.Learnt
 answer-answer-limit κs a x y v w p q = (determined p q, refl)
 
-pub answer-answer-name : Fixes answer.answer.name.ended answer.answer.name.Reads.Learnt
+pub answer-answer-name : Fixes answer.specs.contracts.answer.name.ended answer.proofs.answer.name.Reads.Learnt
 answer-answer-name κs a x y v w p q = (determined p q, refl)
 
-pub answer-answer-room : Fixes answer.answer.room.ended answer.answer.room.Reads.Learnt
+pub answer-answer-room : Fixes answer.specs.contracts.answer.room.ended answer.proofs.answer.room.Reads.Learnt
 answer-answer-room κs a x y v w p q = (determined p q, refl)
 
-pub answer-check-in-range : Fixes answer.check.in_range.ended answer.check.in_range.Reads.Learnt
+pub answer-check-in-range : Fixes answer.specs.contracts.check.in_range.ended answer.proofs.check.in_range.Reads.Learnt
 answer-check-in-range κs a x y v w p q = (determined p q, refl)
 
-pub answer-check-in-range2 : Fixes answer.check.in_range2.ended answer.check.in_range2.Reads.Learnt
+pub answer-check-in-range2 : Fixes answer.specs.contracts.check.in_range2.ended answer.proofs.check.in_range2.Reads.Learnt
 answer-check-in-range2 κs a x y v w p q = (determined p q, refl)
 
-pub answer-check-in-range3 : Fixes answer.check.in_range3.ended answer.check.in_range3.Reads.Learnt
+pub answer-check-in-range3 : Fixes answer.specs.contracts.check.in_range3.ended answer.proofs.check.in_range3.Reads.Learnt
 answer-check-in-range3 κs a x y v w p q = (determined p q, refl)
 
-pub answer-check-all-in-range : Fixes answer.check.all_in_range.ended answer.check.all_in_range.Reads.Learnt
+pub answer-check-all-in-range : Fixes answer.specs.contracts.check.all_in_range.ended answer.proofs.check.all_in_range.Reads.Learnt
 answer-check-all-in-range κs a x y v w p q = (determined p q, refl)
 
-pub answer-check-is-exactly : Fixes answer.check.is_exactly.ended answer.check.is_exactly.Reads.Learnt
+pub answer-check-is-exactly : Fixes answer.specs.contracts.check.is_exactly.ended answer.proofs.check.is_exactly.Reads.Learnt
 answer-check-is-exactly κs a x y v w p q = (determined p q, refl)
 
-pub answer-check-names-option : Fixes answer.check.names_option.ended answer.check.names_option.Reads.Learnt
+pub answer-check-names-option : Fixes answer.specs.contracts.check.names_option.ended answer.proofs.check.names_option.Reads.Learnt
 answer-check-names-option κs a x y v w p q = (determined p q, refl)
 
-pub answer-check-is-neighbour : Fixes answer.check.is_neighbour.ended answer.check.is_neighbour.Reads.Learnt
+pub answer-check-is-neighbour : Fixes answer.specs.contracts.check.is_neighbour.ended answer.proofs.check.is_neighbour.Reads.Learnt
 answer-check-is-neighbour κs a x y v w p q = (determined p q, refl)
 
-pub answer-check-all-name-options : Fixes answer.check.all_name_options.ended answer.check.all_name_options.Reads.Learnt
+pub answer-check-all-name-options : Fixes answer.specs.contracts.check.all_name_options.ended answer.proofs.check.all_name_options.Reads.Learnt
 answer-check-all-name-options κs a x y v w p q = (determined p q, refl)
 
-pub answer-check-all-below : Fixes answer.check.all_below.ended answer.check.all_below.Reads.Learnt
+pub answer-check-all-below : Fixes answer.specs.contracts.check.all_below.ended answer.proofs.check.all_below.Reads.Learnt
 answer-check-all-below κs a x y v w p q = (determined p q, refl)
 
-pub answer-check-all-neighbours : Fixes answer.check.all_neighbours.ended answer.check.all_neighbours.Reads.Learnt
+pub answer-check-all-neighbours : Fixes answer.specs.contracts.check.all_neighbours.ended answer.proofs.check.all_neighbours.Reads.Learnt
 answer-check-all-neighbours κs a x y v w p q = (determined p q, refl)
 
-pub answer-check-is-cell-count : Fixes answer.check.is_cell_count.ended answer.check.is_cell_count.Reads.Learnt
+pub answer-check-is-cell-count : Fixes answer.specs.contracts.check.is_cell_count.ended answer.proofs.check.is_cell_count.Reads.Learnt
 answer-check-is-cell-count κs a x y v w p q = (determined p q, refl)
 
 -- ---- placement
-pub placement-options-entries : Fixes placement.options.entries.ended placement.options.entries.Reads.Learnt
+pub placement-options-entries : Fixes placement.specs.contracts.options.entries.ended placement.proofs.options.entries.Reads.Learnt
 placement-options-entries κs a x y v w p q = (determined p q, refl)
 
-pub placement-options-is-table : Fixes placement.options.is_table.ended placement.options.is_table.Reads.Learnt
+pub placement-options-is-table : Fixes placement.specs.contracts.options.is_table.ended placement.proofs.options.is_table.Reads.Learnt
 placement-options-is-table κs a x y v w p q = (determined p q, refl)
 
-pub placement-options-option-at : Fixes placement.options.option_at.ended placement.options.option_at.Reads.Learnt
+pub placement-options-option-at : Fixes placement.specs.contracts.options.option_at.ended placement.proofs.options.option_at.Reads.Learnt
 placement-options-option-at κs a x y v w p q = (determined p q, refl)
 
-pub placement-options-choice-names : Fixes placement.options.choice_names.ended placement.options.choice_names.Reads.Learnt
+pub placement-options-choice-names : Fixes placement.specs.contracts.options.choice_names.ended placement.proofs.options.choice_names.Reads.Learnt
 placement-options-choice-names κs a x y v w p q = (determined p q, refl)
 
-pub placement-options-option-for : Fixes placement.options.option_for.ended placement.options.option_for.Reads.Learnt
+pub placement-options-option-for : Fixes placement.specs.contracts.options.option_for.ended placement.proofs.options.option_for.Reads.Learnt
 placement-options-option-for κs a x y v w p q = (determined p q, refl)
 
-pub placement-placement-stand-from : Fixes placement.placement.stand_from.ended placement.placement.stand_from.Reads.Learnt
+pub placement-placement-stand-from : Fixes placement.specs.contracts.placement.stand_from.ended placement.proofs.placement.stand_from.Reads.Learnt
 placement-placement-stand-from κs a x y v w p q = (determined p q, refl)
 
-pub placement-placement-stand-by : Fixes placement.placement.stand_by.ended placement.placement.stand_by.Reads.Learnt
+pub placement-placement-stand-by : Fixes placement.specs.contracts.placement.stand_by.ended placement.proofs.placement.stand_by.Reads.Learnt
 placement-placement-stand-by κs a x y v w p q = (determined p q, refl)
 
-pub placement-placement-stand-point : Fixes placement.placement.stand_point.ended placement.placement.stand_point.Reads.Learnt
+pub placement-placement-stand-point : Fixes placement.specs.contracts.placement.stand_point.ended placement.proofs.placement.stand_point.Reads.Learnt
 placement-placement-stand-point κs a x y v w p q = (determined p q, refl)
 
-pub placement-placement-is-shift : Fixes placement.placement.is_shift.ended placement.placement.is_shift.Reads.Learnt
+pub placement-placement-is-shift : Fixes placement.specs.contracts.placement.is_shift.ended placement.proofs.placement.is_shift.Reads.Learnt
 placement-placement-is-shift κs a x y v w p q = (determined p q, refl)
 
-pub placement-placement-shift-point : Fixes placement.placement.shift_point.ended placement.placement.shift_point.Reads.Learnt
+pub placement-placement-shift-point : Fixes placement.specs.contracts.placement.shift_point.ended placement.proofs.placement.shift_point.Reads.Learnt
 placement-placement-shift-point κs a x y v w p q = (determined p q, refl)
 
-pub placement-placement-stand-normal : Fixes placement.placement.stand_normal.ended placement.placement.stand_normal.Reads.Learnt
+pub placement-placement-stand-normal : Fixes placement.specs.contracts.placement.stand_normal.ended placement.proofs.placement.stand_normal.Reads.Learnt
 placement-placement-stand-normal κs a x y v w p q = (determined p q, refl)
 
-pub placement-placement-settle : Fixes placement.placement.settle.ended placement.placement.settle.Reads.Learnt
+pub placement-placement-settle : Fixes placement.specs.contracts.placement.settle.ended placement.proofs.placement.settle.Reads.Learnt
 placement-placement-settle κs a x y v w p q = (determined p q, refl)
 
-pub placement-placement-placement-in-range : Fixes placement.placement.placement_in_range.ended placement.placement.placement_in_range.Reads.Learnt
+pub placement-placement-placement-in-range : Fixes placement.specs.contracts.placement.placement_in_range.ended placement.proofs.placement.placement_in_range.Reads.Learnt
 placement-placement-placement-in-range κs a x y v w p q = (determined p q, refl)
 
 -- ---- buffers
-pub buffers-laying-has-room : Fixes buffers.laying.has_room.ended buffers.laying.has_room.Reads.Learnt
+pub buffers-laying-has-room : Fixes buffers.specs.contracts.laying.has_room.ended buffers.proofs.laying.has_room.Reads.Learnt
 buffers-laying-has-room κs a x y v w p q = (determined p q, refl)
 
-pub buffers-laying-lay-quad : Fixes buffers.laying.lay_quad.ended buffers.laying.lay_quad.Reads.Learnt
+pub buffers-laying-lay-quad : Fixes buffers.specs.contracts.laying.lay_quad.ended buffers.proofs.laying.lay_quad.Reads.Learnt
 buffers-laying-lay-quad κs a x y v w p q = let e = determined p.1 q.1 in (determined p.0 q.0, λ i. (tt, (tt, (tt, (tt, ((e i).vertices, ((e i).normals, ((e i).uvs, ((e i).indices, tt)))))))))
 
-pub buffers-laying-lay-wall : Fixes buffers.laying.lay_wall.ended buffers.laying.lay_wall.Reads.Learnt
+pub buffers-laying-lay-wall : Fixes buffers.specs.contracts.laying.lay_wall.ended buffers.proofs.laying.lay_wall.Reads.Learnt
 buffers-laying-lay-wall κs a x y v w p q = let e = determined p q in (refl, λ i. (tt, (tt, (tt, (tt, ((e i).vertices, ((e i).normals, ((e i).uvs, ((e i).indices, tt)))))))))
 
-pub buffers-laying-lay-hexagon : Fixes buffers.laying.lay_hexagon.ended buffers.laying.lay_hexagon.Reads.Learnt
+pub buffers-laying-lay-hexagon : Fixes buffers.specs.contracts.laying.lay_hexagon.ended buffers.proofs.laying.lay_hexagon.Reads.Learnt
 buffers-laying-lay-hexagon κs a x y v w p q = let e = determined p.1 q.1 in (determined p.0 q.0, λ i. (tt, (tt, (tt, (tt, ((e i).vertices, ((e i).normals, ((e i).uvs, ((e i).indices, tt)))))))))
 
-pub buffers-laying-lay-plain-quad : Fixes buffers.laying.lay_plain_quad.ended buffers.laying.lay_plain_quad.Reads.Learnt
+pub buffers-laying-lay-plain-quad : Fixes buffers.specs.contracts.laying.lay_plain_quad.ended buffers.proofs.laying.lay_plain_quad.Reads.Learnt
 buffers-laying-lay-plain-quad κs a x y v w p q = let e = determined p q in (refl, λ i. (tt, (tt, ((e i).vertices, ((e i).normals, ((e i).uvs, ((e i).indices, tt)))))))
 
-pub buffers-laying-lay-plain-hexagon : Fixes buffers.laying.lay_plain_hexagon.ended buffers.laying.lay_plain_hexagon.Reads.Learnt
+pub buffers-laying-lay-plain-hexagon : Fixes buffers.specs.contracts.laying.lay_plain_hexagon.ended buffers.proofs.laying.lay_plain_hexagon.Reads.Learnt
 buffers-laying-lay-plain-hexagon κs a x y v w p q = let e = determined p q in (refl, λ i. (tt, (tt, ((e i).vertices, ((e i).normals, ((e i).uvs, ((e i).indices, tt)))))))
 
-pub buffers-plain-shift-quad : Fixes buffers.plain.shift_quad.ended buffers.plain.shift_quad.Reads.Learnt
+pub buffers-plain-shift-quad : Fixes buffers.specs.contracts.plain.shift_quad.ended buffers.proofs.plain.shift_quad.Reads.Learnt
 buffers-plain-shift-quad κs a x y v w p q = (determined p q, refl)
 
-pub buffers-plain-stand-quad : Fixes buffers.plain.stand_quad.ended buffers.plain.stand_quad.Reads.Learnt
+pub buffers-plain-stand-quad : Fixes buffers.specs.contracts.plain.stand_quad.ended buffers.proofs.plain.stand_quad.Reads.Learnt
 buffers-plain-stand-quad κs a x y v w p q = (determined p q, refl)
 
-pub buffers-plain-stand-hexagon : Fixes buffers.plain.stand_hexagon.ended buffers.plain.stand_hexagon.Reads.Learnt
+pub buffers-plain-stand-hexagon : Fixes buffers.specs.contracts.plain.stand_hexagon.ended buffers.proofs.plain.stand_hexagon.Reads.Learnt
 buffers-plain-stand-hexagon κs a x y v w p q = (determined p q, refl)
 
 -- ---- mesh
-pub mesh-stored-holds-counts : Fixes mesh.stored.holds_counts.ended mesh.stored.holds_counts.Reads.Learnt
+pub mesh-stored-holds-counts : Fixes mesh.specs.contracts.stored.holds_counts.ended mesh.proofs.stored.holds_counts.Reads.Learnt
 mesh-stored-holds-counts κs a x y v w p q = (determined p q, refl)
 
-pub mesh-stored-scale : Fixes mesh.stored.scale.ended mesh.stored.scale.Reads.Learnt
+pub mesh-stored-scale : Fixes mesh.specs.contracts.stored.scale.ended mesh.proofs.stored.scale.Reads.Learnt
 mesh-stored-scale κs a x y v w p q = let e = determined p.1 q.1 in (determined p.0 q.0, λ i. (tt, (tt, ((e i).vertices, (tt, (tt, (tt, tt)))))))
 
-pub mesh-stored-offset : Fixes mesh.stored.offset.ended mesh.stored.offset.Reads.Learnt
+pub mesh-stored-offset : Fixes mesh.specs.contracts.stored.offset.ended mesh.proofs.stored.offset.Reads.Learnt
 mesh-stored-offset κs a x y v w p q = let e = determined p.1 q.1 in (determined p.0 q.0, λ i. (tt, (tt, ((e i).vertices, (tt, (tt, (tt, tt)))))))
 
-pub mesh-stored-texture-scale : Fixes mesh.stored.texture_scale.ended mesh.stored.texture_scale.Reads.Learnt
+pub mesh-stored-texture-scale : Fixes mesh.specs.contracts.stored.texture_scale.ended mesh.proofs.stored.texture_scale.Reads.Learnt
 mesh-stored-texture-scale κs a x y v w p q = let e = determined p.1 q.1 in (determined p.0 q.0, λ i. (tt, (tt, (tt, (tt, ((e i).uvs, (tt, tt)))))))
 
-pub mesh-stored-centroid : Fixes mesh.stored.centroid.ended mesh.stored.centroid.Reads.Learnt
+pub mesh-stored-centroid : Fixes mesh.specs.contracts.stored.centroid.ended mesh.proofs.stored.centroid.Reads.Learnt
 mesh-stored-centroid κs a x y v w p q = (determined p q, refl)
 
-pub mesh-stored-uv-centroid : Fixes mesh.stored.uv_centroid.ended mesh.stored.uv_centroid.Reads.Learnt
+pub mesh-stored-uv-centroid : Fixes mesh.specs.contracts.stored.uv_centroid.ended mesh.proofs.stored.uv_centroid.Reads.Learnt
 mesh-stored-uv-centroid κs a x y v w p q = (determined p q, refl)
 
-pub mesh-windows-faces-if-done : Fixes mesh.windows.faces_if_done.ended mesh.windows.faces_if_done.Reads.Learnt
+pub mesh-windows-faces-if-done : Fixes mesh.specs.contracts.windows.faces_if_done.ended mesh.proofs.windows.faces_if_done.Reads.Learnt
 mesh-windows-faces-if-done κs a x y v w p q = (determined p q, refl)
 
-pub mesh-windows-window-if-done : Fixes mesh.windows.window_if_done.ended mesh.windows.window_if_done.Reads.Learnt
+pub mesh-windows-window-if-done : Fixes mesh.specs.contracts.windows.window_if_done.ended mesh.proofs.windows.window_if_done.Reads.Learnt
 mesh-windows-window-if-done κs a x y v w p q = (determined p q, refl)
 
-pub mesh-windows-window-of-all : Fixes mesh.windows.window_of_all.ended mesh.windows.window_of_all.Reads.Learnt
+pub mesh-windows-window-of-all : Fixes mesh.specs.contracts.windows.window_of_all.ended mesh.proofs.windows.window_of_all.Reads.Learnt
 mesh-windows-window-of-all κs a x y v w p q = (determined p q, refl)
 
 -- ---- plane_builder
-pub plane-builder-plan : Fixes plane_builder.plan.ended plane_builder.plan.Reads.Learnt
+pub plane-builder-plan : Fixes plane_builder.specs.contracts.plan.ended plane_builder.proofs.plan.Reads.Learnt
 plane-builder-plan κs a x y v w p q = (determined p q, refl)
 
-pub plane-builder-faces : Fixes plane_builder.faces.ended plane_builder.faces.Reads.Learnt
+pub plane-builder-faces : Fixes plane_builder.specs.contracts.faces.ended plane_builder.proofs.faces.Reads.Learnt
 plane-builder-faces κs a x y v w p q = (determined p q, refl)
 
-pub plane-builder-window : Fixes plane_builder.window.ended plane_builder.window.Reads.Learnt
+pub plane-builder-window : Fixes plane_builder.specs.contracts.window.ended plane_builder.proofs.window.Reads.Learnt
 plane-builder-window κs a x y v w p q = (determined p q, refl)
 
-pub plane-builder-build : Fixes plane_builder.build.ended plane_builder.build.Reads.Learnt
+pub plane-builder-build : Fixes plane_builder.specs.contracts.build.ended plane_builder.proofs.build.Reads.Learnt
 plane-builder-build κs a x y v w p q = let e = determined p.1 q.1 in (determined p.0 q.0, λ i. (tt, (tt, (tt, (tt, ((e i).vertices, ((e i).normals, ((e i).uvs, ((e i).indices, tt)))))))))
 
-pub plane-builder-face : Fixes plane_builder.face.ended plane_builder.face.Reads.Learnt
+pub plane-builder-face : Fixes plane_builder.specs.contracts.face.ended plane_builder.proofs.face.Reads.Learnt
 plane-builder-face κs a x y v w p q = let e = determined p.1 q.1 in (determined p.0 q.0, λ i. (tt, (tt, (tt, (tt, (tt, ((e i).vertices, ((e i).normals, ((e i).uvs, ((e i).indices, tt))))))))))
 
-pub plane-builder-cap-pair-at : Fixes plane_builder.cap.pair_at.ended plane_builder.cap.pair_at.Reads.Learnt
+pub plane-builder-cap-pair-at : Fixes plane_builder.specs.contracts.cap.pair_at.ended plane_builder.proofs.cap.pair_at.Reads.Learnt
 plane-builder-cap-pair-at κs a x y v w p q = (determined p q, refl)
 
-pub plane-builder-cap-corners-of : Fixes plane_builder.cap.corners_of.ended plane_builder.cap.corners_of.Reads.Learnt
+pub plane-builder-cap-corners-of : Fixes plane_builder.specs.contracts.cap.corners_of.ended plane_builder.proofs.cap.corners_of.Reads.Learnt
 plane-builder-cap-corners-of κs a x y v w p q = (determined p q, refl)
 
-pub plane-builder-cap-cap-hexagon : Fixes plane_builder.cap.cap_hexagon.ended plane_builder.cap.cap_hexagon.Reads.Learnt
+pub plane-builder-cap-cap-hexagon : Fixes plane_builder.specs.contracts.cap.cap_hexagon.ended plane_builder.proofs.cap.cap_hexagon.Reads.Learnt
 plane-builder-cap-cap-hexagon κs a x y v w p q = (determined p q, refl)
 
-pub plane-builder-cap-put-cap : Fixes plane_builder.cap.put_cap.ended plane_builder.cap.put_cap.Reads.Learnt
+pub plane-builder-cap-put-cap : Fixes plane_builder.specs.contracts.cap.put_cap.ended plane_builder.proofs.cap.put_cap.Reads.Learnt
 plane-builder-cap-put-cap κs a x y v w p q = let e = determined p q in (refl, λ i. (tt, (tt, (tt, (tt, ((e i).vertices, ((e i).normals, ((e i).uvs, ((e i).indices, tt)))))))))
 
 -- ---- cheap_column
-pub cheap-column-plan : Fixes cheap_column.plan.ended cheap_column.plan.Reads.Learnt
+pub cheap-column-plan : Fixes cheap_column.specs.contracts.plan.ended cheap_column.proofs.plan.Reads.Learnt
 cheap-column-plan κs a x y v w p q = (determined p q, refl)
 
-pub cheap-column-faces : Fixes cheap_column.faces.ended cheap_column.faces.Reads.Learnt
+pub cheap-column-faces : Fixes cheap_column.specs.contracts.faces.ended cheap_column.proofs.faces.Reads.Learnt
 cheap-column-faces κs a x y v w p q = (determined p q, refl)
 
-pub cheap-column-window : Fixes cheap_column.window.ended cheap_column.window.Reads.Learnt
+pub cheap-column-window : Fixes cheap_column.specs.contracts.window.ended cheap_column.proofs.window.Reads.Learnt
 cheap-column-window κs a x y v w p q = (determined p q, refl)
 
-pub cheap-column-build : Fixes cheap_column.build.ended cheap_column.build.Reads.Learnt
+pub cheap-column-build : Fixes cheap_column.specs.contracts.build.ended cheap_column.proofs.build.Reads.Learnt
 cheap-column-build κs a x y v w p q = let e = determined p.1 q.1 in (determined p.0 q.0, λ i. (tt, (tt, ((e i).vertices, ((e i).normals, ((e i).uvs, ((e i).indices, tt)))))))
 
-pub cheap-column-face : Fixes cheap_column.face.ended cheap_column.face.Reads.Learnt
+pub cheap-column-face : Fixes cheap_column.specs.contracts.face.ended cheap_column.proofs.face.Reads.Learnt
 cheap-column-face κs a x y v w p q = let e = determined p.1 q.1 in (determined p.0 q.0, λ i. (tt, (tt, (tt, ((e i).vertices, ((e i).normals, ((e i).uvs, ((e i).indices, tt))))))))
 
 -- ---- merge
-pub merge-merge : Fixes merge.merge.ended merge.merge.Reads.Learnt
+pub merge-merge : Fixes merge.specs.contracts.merge.ended merge.proofs.merge.Reads.Learnt
 merge-merge κs a x y v w p q = let e = determined p.1 q.1 in (determined p.0 q.0, λ i. (tt, (tt, (tt, (tt, (tt, (tt, ((e i).vertices, ((e i).normals, ((e i).uvs, ((e i).indices, tt)))))))))))
 
 -- ---- stl
-pub stl-file-length : Fixes stl.file_length.ended stl.file_length.Reads.Learnt
+pub stl-file-length : Fixes stl.specs.contracts.file_length.ended stl.proofs.file_length.Reads.Learnt
 stl-file-length κs a x y v w p q = (determined p q, refl)
 
 -- ---- stl_writing
-pub stl-writing-write : Fixes stl_writing.write.ended stl_writing.write.Reads.Learnt
+pub stl-writing-write : Fixes stl_writing.specs.contracts.write.ended stl_writing.proofs.write.Reads.Learnt
 stl-writing-write κs a x y v w p q = let e = determined p.1 q.1 in (determined p.0 q.0, λ i. (tt, (tt, (tt, (tt, (tt, (e i, tt)))))))
 
 -- ---- stl_reading
-pub stl-reading-read : Fixes stl_reading.read.ended stl_reading.read.Reads.Learnt
+pub stl-reading-read : Fixes stl_reading.specs.contracts.read.ended stl_reading.proofs.read.Reads.Learnt
 stl-reading-read κs a x y v w p q = let e = determined p.1 q.1 in (determined p.0 q.0, λ i. (tt, ((e i).vertices, ((e i).normals, ((e i).uvs, ((e i).indices, tt))))))
 
 -- ---- column
-pub column-parts-of : Fixes column.parts_of.ended column.parts_of.Reads.Learnt
+pub column-parts-of : Fixes column.specs.contracts.parts_of.ended column.proofs.parts_of.Reads.Learnt
 column-parts-of κs a x y v w p q = (determined p q, refl)
 
-pub column-delta-of : Fixes column.delta_of.ended column.delta_of.Reads.Learnt
+pub column-delta-of : Fixes column.specs.contracts.delta_of.ended column.proofs.delta_of.Reads.Learnt
 column-delta-of κs a x y v w p q = (determined p q, refl)
 
-pub column-side-counts : Fixes column.side_counts.ended column.side_counts.Reads.Learnt
+pub column-side-counts : Fixes column.specs.contracts.side_counts.ended column.proofs.side_counts.Reads.Learnt
 column-side-counts κs a x y v w p q = (determined p q, refl)
 
-pub column-cap-counts : Fixes column.cap_counts.ended column.cap_counts.Reads.Learnt
+pub column-cap-counts : Fixes column.specs.contracts.cap_counts.ended column.proofs.cap_counts.Reads.Learnt
 column-cap-counts κs a x y v w p q = (determined p q, refl)
 
-pub column-side-option : Fixes column.side_option.ended column.side_option.Reads.Learnt
+pub column-side-option : Fixes column.specs.contracts.side_option.ended column.proofs.side_option.Reads.Learnt
 column-side-option κs a x y v w p q = (determined p q, refl)
 
-pub column-plan : Fixes column.plan.ended column.plan.Reads.Learnt
+pub column-plan : Fixes column.specs.contracts.plan.ended column.proofs.plan.Reads.Learnt
 column-plan κs a x y v w p q = (determined p q, refl)
 
-pub column-window-faces : Fixes column.window.faces.ended column.window.faces.Reads.Learnt
+pub column-window-faces : Fixes column.specs.contracts.window.faces.ended column.proofs.window.faces.Reads.Learnt
 column-window-faces κs a x y v w p q = (determined p q, refl)
 
-pub column-window-window : Fixes column.window.window.ended column.window.window.Reads.Learnt
+pub column-window-window : Fixes column.specs.contracts.window.window.ended column.proofs.window.window.Reads.Learnt
 column-window-window κs a x y v w p q = (determined p q, refl)
 
-pub column-caps-top-stand : Fixes column.caps.top_stand.ended column.caps.top_stand.Reads.Learnt
+pub column-caps-top-stand : Fixes column.specs.contracts.caps.top_stand.ended column.proofs.caps.top_stand.Reads.Learnt
 column-caps-top-stand κs a x y v w p q = (determined p q, refl)
 
-pub column-caps-bottom-stand : Fixes column.caps.bottom_stand.ended column.caps.bottom_stand.Reads.Learnt
+pub column-caps-bottom-stand : Fixes column.specs.contracts.caps.bottom_stand.ended column.proofs.caps.bottom_stand.Reads.Learnt
 column-caps-bottom-stand κs a x y v w p q = (determined p q, refl)
 
-pub column-names-side-faces : Fixes column.names.side_faces.ended column.names.side_faces.Reads.Learnt
+pub column-names-side-faces : Fixes column.specs.contracts.names.side_faces.ended column.proofs.names.side_faces.Reads.Learnt
 column-names-side-faces κs a x y v w p q = (determined p q, refl)
 
-pub column-names-face-count : Fixes column.names.face_count.ended column.names.face_count.Reads.Learnt
+pub column-names-face-count : Fixes column.specs.contracts.names.face_count.ended column.proofs.names.face_count.Reads.Learnt
 column-names-face-count κs a x y v w p q = (determined p q, refl)
 
-pub column-names-name-of : Fixes column.names.name_of.ended column.names.name_of.Reads.Learnt
+pub column-names-name-of : Fixes column.specs.contracts.names.name_of.ended column.proofs.names.name_of.Reads.Learnt
 column-names-name-of κs a x y v w p q = (determined p q, refl)
 
-pub column-names-piece-of : Fixes column.names.piece_of.ended column.names.piece_of.Reads.Learnt
+pub column-names-piece-of : Fixes column.specs.contracts.names.piece_of.ended column.proofs.names.piece_of.Reads.Learnt
 column-names-piece-of κs a x y v w p q = (determined p q, refl)
 
-pub column-names-start-of : Fixes column.names.start_of.ended column.names.start_of.Reads.Learnt
+pub column-names-start-of : Fixes column.specs.contracts.names.start_of.ended column.proofs.names.start_of.Reads.Learnt
 column-names-start-of κs a x y v w p q = (determined p q, refl)
 
-pub column-wall-wall-of : Fixes column.wall.wall_of.ended column.wall.wall_of.Reads.Learnt
+pub column-wall-wall-of : Fixes column.specs.contracts.wall.wall_of.ended column.proofs.wall.wall_of.Reads.Learnt
 column-wall-wall-of κs a x y v w p q = (determined p q, refl)
 
-pub column-wall-part-at : Fixes column.wall.part_at.ended column.wall.part_at.Reads.Learnt
+pub column-wall-part-at : Fixes column.specs.contracts.wall.part_at.ended column.proofs.wall.part_at.Reads.Learnt
 column-wall-part-at κs a x y v w p q = (determined p q, refl)
 
 -- ---- cells
--- a walk has no `Reads`: the promise is written here once more, and held to the function's own clauses by `refl`
-abbrev Loads : {R : Type 0} (answer : ℕ → ℕ → ℕ → R) → List Cell → Bor (List Float) → Bor (List ℕ) → R → Bor (List Float) → Bor (List ℕ) → Type 0
+-- a load's clause is one word, `Loading`: here its promise is written out too, and held to the function's own clauses by `refl`
+abbrev Loads : {R : Type 0} (answer : ℕ → ℕ → ℕ → R) → List Cell → MutBor (List Float) → MutBor (List ℕ) → R → MutBor (List Float) → MutBor (List ℕ) → Type 0
 Loads answer cs l m r l' m' =
     (r ≡ answer (length cs) (length l.now) (length m.now)) × (l'.now ≡ numbers_loaded cs l.now m.now) × (m'.now ≡ neighbours_loaded cs l.now m.now)
 
-abbrev load-promise : Promise cells.load.ended
+abbrev load-promise : Promise cells.specs.contracts.load.ended
 load-promise κs a r e = Loads load_answer a.0.now a.1.0 a.1.1.0 r e.1.0 e.1.1.0
 
-pub cells-load-says : {M : Type 1} {𝓤 : Ura M} (𝓛 : Logic 𝓤) (mem : Memory → SProp 𝓤) (run : Routine → Fun 𝓤) → Says cells.load.ended (cells.load.clauses 𝓛 mem run) load-promise
+pub cells-load-says : {M : Type 1} {𝓤 : Ura M} (𝓛 : Logic 𝓤) (mem : Memory → SProp 𝓤) (run : Routine → Fun 𝓤) → Says cells.specs.contracts.load.ended (cells.specs.contracts.load.clauses 𝓛 mem run) load-promise
 cells-load-says 𝓛 mem run κs a g r e = refl
 
-pub cells_load : Fixes cells.load.ended load-promise
+pub cells-load-learnt : Fixes cells.specs.contracts.load.ended cells.proofs.load.Reads.Learnt
+cells-load-learnt κs a x y v w p q = (determined p.0 q.0, λ i. (tt, (determined p.1 q.1 i, (determined p.2 q.2 i, tt))))
+
+pub cells_load : Fixes cells.specs.contracts.load.ended load-promise
 cells_load κs a x y v w p q = (determined p.0 q.0, λ i. (tt, (determined p.1 q.1 i, (determined p.2 q.2 i, tt))))
 
 -- ---- boundary
-pub boundary-from-c-vec2-of : Fixes boundary.from_c.vec2_of.ended boundary.from_c.vec2_of.Reads.Learnt
+pub boundary-from-c-vec2-of : Fixes boundary.specs.contracts.from_c.vec2_of.ended boundary.proofs.from_c.vec2_of.Reads.Learnt
 boundary-from-c-vec2-of κs a x y v w p q = (determined p q, refl)
 
-pub boundary-from-c-vec3-of : Fixes boundary.from_c.vec3_of.ended boundary.from_c.vec3_of.Reads.Learnt
+pub boundary-from-c-vec3-of : Fixes boundary.specs.contracts.from_c.vec3_of.ended boundary.proofs.from_c.vec3_of.Reads.Learnt
 boundary-from-c-vec3-of κs a x y v w p q = (determined p q, refl)
 
-pub boundary-from-c-counts-in : Fixes boundary.from_c.counts_in.ended boundary.from_c.counts_in.Reads.Learnt
+pub boundary-from-c-counts-in : Fixes boundary.specs.contracts.from_c.counts_in.ended boundary.proofs.from_c.counts_in.Reads.Learnt
 boundary-from-c-counts-in κs a x y v w p q = (determined p q, refl)
 
-pub boundary-from-c-uv-options-of : Fixes boundary.from_c.uv_options_of.ended boundary.from_c.uv_options_of.Reads.Learnt
+pub boundary-from-c-uv-options-of : Fixes boundary.specs.contracts.from_c.uv_options_of.ended boundary.proofs.from_c.uv_options_of.Reads.Learnt
 boundary-from-c-uv-options-of κs a x y v w p q = (determined p q, refl)
 
-pub boundary-jobs-plane-of : Fixes boundary.jobs.plane_of.ended boundary.jobs.plane_of.Reads.Learnt
+pub boundary-jobs-plane-of : Fixes boundary.specs.contracts.jobs.plane_of.ended boundary.proofs.jobs.plane_of.Reads.Learnt
 boundary-jobs-plane-of κs a x y v w p q = (determined p q, refl)
 
-pub boundary-jobs-column-of : Fixes boundary.jobs.column_of.ended boundary.jobs.column_of.Reads.Learnt
+pub boundary-jobs-column-of : Fixes boundary.specs.contracts.jobs.column_of.ended boundary.proofs.jobs.column_of.Reads.Learnt
 boundary-jobs-column-of κs a x y v w p q = (determined p q, refl)
 
-pub boundary-jobs-cheap-column-of : Fixes boundary.jobs.cheap_column_of.ended boundary.jobs.cheap_column_of.Reads.Learnt
+pub boundary-jobs-cheap-column-of : Fixes boundary.specs.contracts.jobs.cheap_column_of.ended boundary.proofs.jobs.cheap_column_of.Reads.Learnt
 boundary-jobs-cheap-column-of κs a x y v w p q = (determined p q, refl)
 
-pub boundary-to-c-answer-to-c : Fixes boundary.to_c.answer_to_c.ended boundary.to_c.answer_to_c.Reads.Learnt
+pub boundary-to-c-answer-to-c : Fixes boundary.specs.contracts.to_c.answer_to_c.ended boundary.proofs.to_c.answer_to_c.Reads.Learnt
 boundary-to-c-answer-to-c κs a x y v w p q = (determined p q, refl)
 
-pub boundary-to-c-point-to-c : Fixes boundary.to_c.point_to_c.ended boundary.to_c.point_to_c.Reads.Learnt
+pub boundary-to-c-point-to-c : Fixes boundary.specs.contracts.to_c.point_to_c.ended boundary.proofs.to_c.point_to_c.Reads.Learnt
 boundary-to-c-point-to-c κs a x y v w p q = (determined p q, refl)
 
-pub boundary-to-c-centroid-to-c : Fixes boundary.to_c.centroid_to_c.ended boundary.to_c.centroid_to_c.Reads.Learnt
+pub boundary-to-c-centroid-to-c : Fixes boundary.specs.contracts.to_c.centroid_to_c.ended boundary.proofs.to_c.centroid_to_c.Reads.Learnt
 boundary-to-c-centroid-to-c κs a x y v w p q = (determined p q, refl)
 
-pub boundary-to-c-uv-centroid-to-c : Fixes boundary.to_c.uv_centroid_to_c.ended boundary.to_c.uv_centroid_to_c.Reads.Learnt
+pub boundary-to-c-uv-centroid-to-c : Fixes boundary.specs.contracts.to_c.uv_centroid_to_c.ended boundary.proofs.to_c.uv_centroid_to_c.Reads.Learnt
 boundary-to-c-uv-centroid-to-c κs a x y v w p q = (determined p q, refl)
 
-pub boundary-to-c-faces-to-c : Fixes boundary.to_c.faces_to_c.ended boundary.to_c.faces_to_c.Reads.Learnt
+pub boundary-to-c-faces-to-c : Fixes boundary.specs.contracts.to_c.faces_to_c.ended boundary.proofs.to_c.faces_to_c.Reads.Learnt
 boundary-to-c-faces-to-c κs a x y v w p q = (determined p q, refl)
 
-pub boundary-to-c-window-to-c : Fixes boundary.to_c.window_to_c.ended boundary.to_c.window_to_c.Reads.Learnt
+pub boundary-to-c-window-to-c : Fixes boundary.specs.contracts.to_c.window_to_c.ended boundary.proofs.to_c.window_to_c.Reads.Learnt
 boundary-to-c-window-to-c κs a x y v w p q = (determined p q, refl)
 
-pub boundary-to-c-why-to-c : Fixes boundary.to_c.why_to_c.ended boundary.to_c.why_to_c.Reads.Learnt
+pub boundary-to-c-why-to-c : Fixes boundary.specs.contracts.to_c.why_to_c.ended boundary.proofs.to_c.why_to_c.Reads.Learnt
 boundary-to-c-why-to-c κs a x y v w p q = (determined p q, refl)
 
-pub boundary-to-c-which-to-c : Fixes boundary.to_c.which_to_c.ended boundary.to_c.which_to_c.Reads.Learnt
+pub boundary-to-c-which-to-c : Fixes boundary.specs.contracts.to_c.which_to_c.ended boundary.proofs.to_c.which_to_c.Reads.Learnt
 boundary-to-c-which-to-c κs a x y v w p q = (determined p q, refl)
 
-pub boundary-jobs-is-fringe : Fixes boundary.jobs.is_fringe.ended boundary.jobs.is_fringe.Reads.Learnt
+pub boundary-jobs-is-fringe : Fixes boundary.specs.contracts.jobs.is_fringe.ended boundary.proofs.jobs.is_fringe.Reads.Learnt
 boundary-jobs-is-fringe κs a x y v w p q = (determined p q, refl)
 
-pub boundary-jobs-heightmap-of : Fixes boundary.jobs.heightmap_of.ended boundary.jobs.heightmap_of.Reads.Learnt
+pub boundary-jobs-heightmap-of : Fixes boundary.specs.contracts.jobs.heightmap_of.ended boundary.proofs.jobs.heightmap_of.Reads.Learnt
 boundary-jobs-heightmap-of κs a x y v w p q = (determined p q, refl)
 
-pub boundary-to-c-file-to-c : Fixes boundary.to_c.file_to_c.ended boundary.to_c.file_to_c.Reads.Learnt
+pub boundary-to-c-file-to-c : Fixes boundary.specs.contracts.to_c.file_to_c.ended boundary.proofs.to_c.file_to_c.Reads.Learnt
 boundary-to-c-file-to-c κs a x y v w p q = (determined p q, refl)
 
 -- ---- column_builder
-pub column-builder-plan : Fixes column_builder.plan.ended column_builder.plan.Reads.Learnt
+pub column-builder-plan : Fixes column_builder.specs.contracts.plan.ended column_builder.proofs.plan.Reads.Learnt
 column-builder-plan κs a x y v w p q = (determined p q, refl)
 
-pub column-builder-build : Fixes column_builder.build.ended column_builder.build.Reads.Learnt
+pub column-builder-build : Fixes column_builder.specs.contracts.build.ended column_builder.proofs.build.Reads.Learnt
 column-builder-build κs a x y v w p q = let e = determined p.1 q.1 in (determined p.0 q.0, λ i. (tt, (tt, (tt, (tt, (tt, ((e i).vertices, ((e i).normals, ((e i).uvs, ((e i).indices, tt))))))))))
 
-pub column-builder-face : Fixes column_builder.face.ended column_builder.face.Reads.Learnt
+pub column-builder-face : Fixes column_builder.specs.contracts.face.ended column_builder.proofs.face.Reads.Learnt
 column-builder-face κs a x y v w p q = let e = determined p.1 q.1 in (determined p.0 q.0, λ i. (tt, (tt, (tt, (tt, (tt, (tt, ((e i).vertices, ((e i).normals, ((e i).uvs, ((e i).indices, tt)))))))))))
 
 -- ---- heightmap
-pub heightmap-grid-cells-in : Fixes heightmap.grid.cells_in.ended heightmap.grid.cells_in.Reads.Learnt
+pub heightmap-grid-cells-in : Fixes heightmap.specs.contracts.grid.cells_in.ended heightmap.proofs.grid.cells_in.Reads.Learnt
 heightmap-grid-cells-in κs a x y v w p q = (determined p q, refl)
 
-pub heightmap-grid-height-at : Fixes heightmap.grid.height_at.ended heightmap.grid.height_at.Reads.Learnt
+pub heightmap-grid-height-at : Fixes heightmap.specs.contracts.grid.height_at.ended heightmap.proofs.grid.height_at.Reads.Learnt
 heightmap-grid-height-at κs a x y v w p q = (determined p q, refl)
 
-pub heightmap-grid-position-at : Fixes heightmap.grid.position_at.ended heightmap.grid.position_at.Reads.Learnt
+pub heightmap-grid-position-at : Fixes heightmap.specs.contracts.grid.position_at.ended heightmap.proofs.grid.position_at.Reads.Learnt
 heightmap-grid-position-at κs a x y v w p q = (determined p q, refl)
 
-pub heightmap-grid-left-at : Fixes heightmap.grid.left_at.ended heightmap.grid.left_at.Reads.Learnt
+pub heightmap-grid-left-at : Fixes heightmap.specs.contracts.grid.left_at.ended heightmap.proofs.grid.left_at.Reads.Learnt
 heightmap-grid-left-at κs a x y v w p q = (determined p q, refl)
 
-pub heightmap-grid-right-at : Fixes heightmap.grid.right_at.ended heightmap.grid.right_at.Reads.Learnt
+pub heightmap-grid-right-at : Fixes heightmap.specs.contracts.grid.right_at.ended heightmap.proofs.grid.right_at.Reads.Learnt
 heightmap-grid-right-at κs a x y v w p q = (determined p q, refl)
 
-pub heightmap-grid-neighbour-at : Fixes heightmap.grid.neighbour_at.ended heightmap.grid.neighbour_at.Reads.Learnt
+pub heightmap-grid-neighbour-at : Fixes heightmap.specs.contracts.grid.neighbour_at.ended heightmap.proofs.grid.neighbour_at.Reads.Learnt
 heightmap-grid-neighbour-at κs a x y v w p q = (determined p q, refl)
 
-pub heightmap-grid-fringe-at : Fixes heightmap.grid.fringe_at.ended heightmap.grid.fringe_at.Reads.Learnt
+pub heightmap-grid-fringe-at : Fixes heightmap.specs.contracts.grid.fringe_at.ended heightmap.proofs.grid.fringe_at.Reads.Learnt
 heightmap-grid-fringe-at κs a x y v w p q = (determined p q, refl)
 
-pub heightmap-grid-wall-at : Fixes heightmap.grid.wall_at.ended heightmap.grid.wall_at.Reads.Learnt
+pub heightmap-grid-wall-at : Fixes heightmap.specs.contracts.grid.wall_at.ended heightmap.proofs.grid.wall_at.Reads.Learnt
 heightmap-grid-wall-at κs a x y v w p q = (determined p q, refl)
 
-pub heightmap-grid-is-present : Fixes heightmap.grid.is_present.ended heightmap.grid.is_present.Reads.Learnt
+pub heightmap-grid-is-present : Fixes heightmap.specs.contracts.grid.is_present.ended heightmap.proofs.grid.is_present.Reads.Learnt
 heightmap-grid-is-present κs a x y v w p q = (determined p q, refl)
 
-pub heightmap-grid-foot-of : Fixes heightmap.grid.foot_of.ended heightmap.grid.foot_of.Reads.Learnt
+pub heightmap-grid-foot-of : Fixes heightmap.specs.contracts.grid.foot_of.ended heightmap.proofs.grid.foot_of.Reads.Learnt
 heightmap-grid-foot-of κs a x y v w p q = (determined p q, refl)
 
-pub heightmap-grid-span-of : Fixes heightmap.grid.span_of.ended heightmap.grid.span_of.Reads.Learnt
+pub heightmap-grid-span-of : Fixes heightmap.specs.contracts.grid.span_of.ended heightmap.proofs.grid.span_of.Reads.Learnt
 heightmap-grid-span-of κs a x y v w p q = (determined p q, refl)
 
-pub heightmap-options-choice-of : Fixes heightmap.options.choice_of.ended heightmap.options.choice_of.Reads.Learnt
+pub heightmap-options-choice-of : Fixes heightmap.specs.contracts.options.choice_of.ended heightmap.proofs.options.choice_of.Reads.Learnt
 heightmap-options-choice-of κs a x y v w p q = (determined p q, refl)
 
-pub heightmap-options-option-of : Fixes heightmap.options.option_of.ended heightmap.options.option_of.Reads.Learnt
+pub heightmap-options-option-of : Fixes heightmap.specs.contracts.options.option_of.ended heightmap.proofs.options.option_of.Reads.Learnt
 heightmap-options-option-of κs a x y v w p q = (determined p q, refl)
 
-pub heightmap-options-origin-of : Fixes heightmap.options.origin_of.ended heightmap.options.origin_of.Reads.Learnt
+pub heightmap-options-origin-of : Fixes heightmap.specs.contracts.options.origin_of.ended heightmap.proofs.options.origin_of.Reads.Learnt
 heightmap-options-origin-of κs a x y v w p q = (determined p q, refl)
 
-pub heightmap-options-side-stand : Fixes heightmap.options.side_stand.ended heightmap.options.side_stand.Reads.Learnt
+pub heightmap-options-side-stand : Fixes heightmap.specs.contracts.options.side_stand.ended heightmap.proofs.options.side_stand.Reads.Learnt
 heightmap-options-side-stand κs a x y v w p q = (determined p q, refl)
 
 -- ---- heightmap_builder
-pub heightmap-builder-plan : Fixes heightmap_builder.plan.ended heightmap_builder.plan.Reads.Learnt
+pub heightmap-builder-plan : Fixes heightmap_builder.specs.contracts.plan.ended heightmap_builder.proofs.plan.Reads.Learnt
 heightmap-builder-plan κs a x y v w p q = (determined p q, refl)
 
-pub heightmap-builder-build : Fixes heightmap_builder.build.ended heightmap_builder.build.Reads.Learnt
+pub heightmap-builder-build : Fixes heightmap_builder.specs.contracts.build.ended heightmap_builder.proofs.build.Reads.Learnt
 heightmap-builder-build κs a x y v w p q = let e = determined p.1 q.1 in (determined p.0 q.0, λ i. (tt, (tt, (tt, (tt, (tt, (tt, (tt, (tt, ((e i).vertices, ((e i).normals, ((e i).uvs, ((e i).indices, tt)))))))))))))
 
-pub heightmap-builder-face : Fixes heightmap_builder.face.ended heightmap_builder.face.Reads.Learnt
+pub heightmap-builder-face : Fixes heightmap_builder.specs.contracts.face.ended heightmap_builder.proofs.face.Reads.Learnt
 heightmap-builder-face κs a x y v w p q = let e = determined p.1 q.1 in (determined p.0 q.0, λ i. (tt, (tt, (tt, (tt, (tt, (tt, (tt, (tt, (tt, ((e i).vertices, ((e i).normals, ((e i).uvs, ((e i).indices, tt))))))))))))))
 
 -- ---- heightmap_faces
-pub heightmap-faces-kept-number-of : Fixes heightmap_faces.kept.number_of.ended heightmap_faces.kept.number_of.Reads.Learnt
+pub heightmap-faces-kept-number-of : Fixes heightmap_faces.specs.contracts.kept.number_of.ended heightmap_faces.proofs.kept.number_of.Reads.Learnt
 heightmap-faces-kept-number-of κs a x y v w p q = (determined p q, refl)
 
-pub heightmap-faces-kept-top-by : Fixes heightmap_faces.kept.top_by.ended heightmap_faces.kept.top_by.Reads.Learnt
+pub heightmap-faces-kept-top-by : Fixes heightmap_faces.specs.contracts.kept.top_by.ended heightmap_faces.proofs.kept.top_by.Reads.Learnt
 heightmap-faces-kept-top-by κs a x y v w p q = (determined p q, refl)
 
-pub heightmap-faces-skin-of : Fixes heightmap_faces.skin_of.ended heightmap_faces.skin_of.Reads.Learnt
+pub heightmap-faces-skin-of : Fixes heightmap_faces.specs.contracts.skin_of.ended heightmap_faces.proofs.skin_of.Reads.Learnt
 heightmap-faces-skin-of κs a x y v w p q = (determined p q, refl)
 
-pub heightmap-faces-wall-quad : Fixes heightmap_faces.wall_quad.ended heightmap_faces.wall_quad.Reads.Learnt
+pub heightmap-faces-wall-quad : Fixes heightmap_faces.specs.contracts.wall_quad.ended heightmap_faces.proofs.wall_quad.Reads.Learnt
 heightmap-faces-wall-quad κs a x y v w p q = (determined p q, refl)
 
-pub heightmap-faces-top-of : Fixes heightmap_faces.top_of.ended heightmap_faces.top_of.Reads.Learnt
+pub heightmap-faces-top-of : Fixes heightmap_faces.specs.contracts.top_of.ended heightmap_faces.proofs.top_of.Reads.Learnt
 heightmap-faces-top-of κs a x y v w p q = (determined p q, refl)
 
-pub heightmap-faces-cap-offset : Fixes heightmap_faces.cap_offset.ended heightmap_faces.cap_offset.Reads.Learnt
+pub heightmap-faces-cap-offset : Fixes heightmap_faces.specs.contracts.cap_offset.ended heightmap_faces.proofs.cap_offset.Reads.Learnt
 heightmap-faces-cap-offset κs a x y v w p q = (determined p q, refl)
 
-pub heightmap-faces-lift : Fixes heightmap_faces.lift.ended heightmap_faces.lift.Reads.Learnt
+pub heightmap-faces-lift : Fixes heightmap_faces.specs.contracts.lift.ended heightmap_faces.proofs.lift.Reads.Learnt
 heightmap-faces-lift κs a x y v w p q = (determined p q, refl)
 
-pub heightmap-faces-named-cap-of : Fixes heightmap_faces.named.cap_of.ended heightmap_faces.named.cap_of.Reads.Learnt
+pub heightmap-faces-named-cap-of : Fixes heightmap_faces.specs.contracts.named.cap_of.ended heightmap_faces.proofs.named.cap_of.Reads.Learnt
 heightmap-faces-named-cap-of κs a x y v w p q = (determined p q, refl)
 
-pub heightmap-faces-named-side-of : Fixes heightmap_faces.named.side_of.ended heightmap_faces.named.side_of.Reads.Learnt
+pub heightmap-faces-named-side-of : Fixes heightmap_faces.specs.contracts.named.side_of.ended heightmap_faces.proofs.named.side_of.Reads.Learnt
 heightmap-faces-named-side-of κs a x y v w p q = (determined p q, refl)
 
-pub heightmap-faces-kept-level-by : Fixes heightmap_faces.kept.level_by.ended heightmap_faces.kept.level_by.Reads.Learnt
+pub heightmap-faces-kept-level-by : Fixes heightmap_faces.specs.contracts.kept.level_by.ended heightmap_faces.proofs.kept.level_by.Reads.Learnt
 heightmap-faces-kept-level-by κs a x y v w p q = (determined p q, refl)
 
-pub heightmap-faces-level-of : Fixes heightmap_faces.level_of.ended heightmap_faces.level_of.Reads.Learnt
+pub heightmap-faces-level-of : Fixes heightmap_faces.specs.contracts.level_of.ended heightmap_faces.proofs.level_of.Reads.Learnt
 heightmap-faces-level-of κs a x y v w p q = (determined p q, refl)
 
-pub heightmap-faces-kept-keep-top : Fixes heightmap_faces.kept.keep_top.ended heightmap_faces.kept.keep_top.Reads.Learnt
+pub heightmap-faces-kept-keep-top : Fixes heightmap_faces.specs.contracts.kept.keep_top.ended heightmap_faces.proofs.kept.keep_top.Reads.Learnt
 heightmap-faces-kept-keep-top κs a x y v w p q = (determined p q, refl)
 
 -- ---- heightmap_laying
-pub heightmap-laying-put-all : Fixes heightmap_laying.put_all.ended heightmap_laying.put_all.Reads.Learnt
+pub heightmap-laying-put-all : Fixes heightmap_laying.specs.contracts.put_all.ended heightmap_laying.proofs.put_all.Reads.Learnt
 heightmap-laying-put-all κs a x y v w p q = let e = determined p q in (refl, λ i. (tt, (tt, (tt, (tt, (tt, (tt, (tt, (tt, ((e i).vertices, ((e i).normals, ((e i).uvs, ((e i).indices, tt)))))))))))))
 
-pub heightmap-laying-put-named : Fixes heightmap_laying.put_named.ended heightmap_laying.put_named.Reads.Learnt
+pub heightmap-laying-put-named : Fixes heightmap_laying.specs.contracts.put_named.ended heightmap_laying.proofs.put_named.Reads.Learnt
 heightmap-laying-put-named κs a x y v w p q = let e = determined p q in (refl, λ i. (tt, (tt, (tt, (tt, (tt, (tt, (tt, (tt, (tt, (tt, ((e i).vertices, ((e i).normals, ((e i).uvs, ((e i).indices, tt)))))))))))))))
 
 -- ---- heightmap_plan
-pub heightmap-plan-check : Fixes heightmap_plan.check.ended heightmap_plan.check.Reads.Learnt
+pub heightmap-plan-check : Fixes heightmap_plan.specs.contracts.check.ended heightmap_plan.proofs.check.Reads.Learnt
 heightmap-plan-check κs a x y v w p q = (determined p q, refl)
 
-pub heightmap-plan-test : Fixes heightmap_plan.test.ended heightmap_plan.test.Reads.Learnt
+pub heightmap-plan-test : Fixes heightmap_plan.specs.contracts.test.ended heightmap_plan.proofs.test.Reads.Learnt
 heightmap-plan-test κs a x y v w p q = (determined p q, refl)
 
-pub heightmap-plan-plan : Fixes heightmap_plan.plan.ended heightmap_plan.plan.Reads.Learnt
+pub heightmap-plan-plan : Fixes heightmap_plan.specs.contracts.plan.ended heightmap_plan.proofs.plan.Reads.Learnt
 heightmap-plan-plan κs a x y v w p q = (determined p q, refl)
 
-pub heightmap-plan-tally-tally-all : Fixes heightmap_plan.tally.tally_all.ended heightmap_plan.tally.tally_all.Reads.Learnt
+pub heightmap-plan-tally-tally-all : Fixes heightmap_plan.specs.contracts.tally.tally_all.ended heightmap_plan.proofs.tally.tally_all.Reads.Learnt
 heightmap-plan-tally-tally-all κs a x y v w p q = (determined p q, refl)
 
-pub heightmap-plan-tally-cell-start : Fixes heightmap_plan.tally.cell_start.ended heightmap_plan.tally.cell_start.Reads.Learnt
+pub heightmap-plan-tally-cell-start : Fixes heightmap_plan.specs.contracts.tally.cell_start.ended heightmap_plan.proofs.tally.cell_start.Reads.Learnt
 heightmap-plan-tally-cell-start κs a x y v w p q = (determined p q, refl)
 
-pub heightmap-plan-names-survey-faces : Fixes heightmap_plan.names.survey_faces.ended heightmap_plan.names.survey_faces.Reads.Learnt
+pub heightmap-plan-names-survey-faces : Fixes heightmap_plan.specs.contracts.names.survey_faces.ended heightmap_plan.proofs.names.survey_faces.Reads.Learnt
 heightmap-plan-names-survey-faces κs a x y v w p q = (determined p q, refl)
 
-pub heightmap-plan-names-find : Fixes heightmap_plan.names.find.ended heightmap_plan.names.find.Reads.Learnt
+pub heightmap-plan-names-find : Fixes heightmap_plan.specs.contracts.names.find.ended heightmap_plan.proofs.names.find.Reads.Learnt
 heightmap-plan-names-find κs a x y v w p q = (determined p q, refl)
 
-pub heightmap-plan-names-face-count : Fixes heightmap_plan.names.face_count.ended heightmap_plan.names.face_count.Reads.Learnt
+pub heightmap-plan-names-face-count : Fixes heightmap_plan.specs.contracts.names.face_count.ended heightmap_plan.proofs.names.face_count.Reads.Learnt
 heightmap-plan-names-face-count κs a x y v w p q = (determined p q, refl)
 
-pub heightmap-plan-names-number-of : Fixes heightmap_plan.names.number_of.ended heightmap_plan.names.number_of.Reads.Learnt
+pub heightmap-plan-names-number-of : Fixes heightmap_plan.specs.contracts.names.number_of.ended heightmap_plan.proofs.names.number_of.Reads.Learnt
 heightmap-plan-names-number-of κs a x y v w p q = (determined p q, refl)
 
-pub heightmap-plan-names-survey-side : Fixes heightmap_plan.names.survey_side.ended heightmap_plan.names.survey_side.Reads.Learnt
+pub heightmap-plan-names-survey-side : Fixes heightmap_plan.specs.contracts.names.survey_side.ended heightmap_plan.proofs.names.survey_side.Reads.Learnt
 heightmap-plan-names-survey-side κs a x y v w p q = (determined p q, refl)
 
-pub heightmap-plan-window-faces : Fixes heightmap_plan.window.faces.ended heightmap_plan.window.faces.Reads.Learnt
+pub heightmap-plan-window-faces : Fixes heightmap_plan.specs.contracts.window.faces.ended heightmap_plan.proofs.window.faces.Reads.Learnt
 heightmap-plan-window-faces κs a x y v w p q = (determined p q, refl)
 
-pub heightmap-plan-window-seek : Fixes heightmap_plan.window.seek.ended heightmap_plan.window.seek.Reads.Learnt
+pub heightmap-plan-window-seek : Fixes heightmap_plan.specs.contracts.window.seek.ended heightmap_plan.proofs.window.seek.Reads.Learnt
 heightmap-plan-window-seek κs a x y v w p q = (determined p q, refl)
 
-pub heightmap-plan-window-window : Fixes heightmap_plan.window.window.ended heightmap_plan.window.window.Reads.Learnt
+pub heightmap-plan-window-window : Fixes heightmap_plan.specs.contracts.window.window.ended heightmap_plan.proofs.window.window.Reads.Learnt
 heightmap-plan-window-window κs a x y v w p q = (determined p q, refl)
 
 -- ---- heightmap_why
-pub heightmap-why-reason-code : Fixes heightmap_why.reason_code.ended heightmap_why.reason_code.Reads.Learnt
+pub heightmap-why-reason-code : Fixes heightmap_why.specs.contracts.reason_code.ended heightmap_why.proofs.reason_code.Reads.Learnt
 heightmap-why-reason-code κs a x y v w p q = (determined p q, refl)
 
-pub heightmap-why-reason-height : Fixes heightmap_why.reason_height.ended heightmap_why.reason_height.Reads.Learnt
+pub heightmap-why-reason-height : Fixes heightmap_why.specs.contracts.reason_height.ended heightmap_why.proofs.reason_height.Reads.Learnt
 heightmap-why-reason-height κs a x y v w p q = (determined p q, refl)
 
-pub heightmap-why-reason-face : Fixes heightmap_why.reason_face.ended heightmap_why.reason_face.Reads.Learnt
+pub heightmap-why-reason-face : Fixes heightmap_why.specs.contracts.reason_face.ended heightmap_why.proofs.reason_face.Reads.Learnt
 heightmap-why-reason-face κs a x y v w p q = (determined p q, refl)
 
-pub heightmap-why-kind-code : Fixes heightmap_why.kind_code.ended heightmap_why.kind_code.Reads.Learnt
+pub heightmap-why-kind-code : Fixes heightmap_why.specs.contracts.kind_code.ended heightmap_why.proofs.kind_code.Reads.Learnt
 heightmap-why-kind-code κs a x y v w p q = (determined p q, refl)
 
-pub heightmap-why-cell-of : Fixes heightmap_why.cell_of.ended heightmap_why.cell_of.Reads.Learnt
+pub heightmap-why-cell-of : Fixes heightmap_why.specs.contracts.cell_of.ended heightmap_why.proofs.cell_of.Reads.Learnt
 heightmap-why-cell-of κs a x y v w p q = (determined p q, refl)
 
-pub heightmap-why-side-of : Fixes heightmap_why.side_of.ended heightmap_why.side_of.Reads.Learnt
+pub heightmap-why-side-of : Fixes heightmap_why.specs.contracts.side_of.ended heightmap_why.proofs.side_of.Reads.Learnt
 heightmap-why-side-of κs a x y v w p q = (determined p q, refl)
 
-pub heightmap-why-why : Fixes heightmap_why.why.ended heightmap_why.why.Reads.Learnt
+pub heightmap-why-why : Fixes heightmap_why.specs.contracts.why.ended heightmap_why.proofs.why.Reads.Learnt
 heightmap-why-why κs a x y v w p q = (determined p q, refl)
 
-pub heightmap-why-which : Fixes heightmap_why.which.ended heightmap_why.which.Reads.Learnt
+pub heightmap-why-which : Fixes heightmap_why.specs.contracts.which.ended heightmap_why.proofs.which.Reads.Learnt
 heightmap-why-which κs a x y v w p q = (determined p q, refl)
 
 -- ---- sheet
-pub sheet-write-answer : Fixes sheet.write_answer.ended sheet.write_answer.Reads.Learnt
+pub sheet-write-answer : Fixes sheet.specs.contracts.write_answer.ended sheet.proofs.write_answer.Reads.Learnt
 sheet-write-answer κs a x y v w p q = let e = determined p.buffer q.buffer in (determined p.count q.count, λ i. (tt, (e i, tt)))
 
 -- ---- exports
-pub exports-cheap-hosirekar-cheap-column-plan : Fixes exports.cheap.hosirekar_cheap_column_plan.ended exports.cheap.hosirekar_cheap_column_plan.Reads.Learnt
+pub exports-cheap-hosirekar-cheap-column-plan : Fixes exports.specs.contracts.cheap.hosirekar_cheap_column_plan.ended exports.proofs.cheap.hosirekar_cheap_column_plan.Reads.Learnt
 exports-cheap-hosirekar-cheap-column-plan κs a x y v w p q = (determined p q, refl)
 
-pub exports-cheap-hosirekar-cheap-column-faces : Fixes exports.cheap.hosirekar_cheap_column_faces.ended exports.cheap.hosirekar_cheap_column_faces.Reads.Learnt
+pub exports-cheap-hosirekar-cheap-column-faces : Fixes exports.specs.contracts.cheap.hosirekar_cheap_column_faces.ended exports.proofs.cheap.hosirekar_cheap_column_faces.Reads.Learnt
 exports-cheap-hosirekar-cheap-column-faces κs a x y v w p q = (determined p q, refl)
 
-pub exports-cheap-hosirekar-cheap-column-window : Fixes exports.cheap.hosirekar_cheap_column_window.ended exports.cheap.hosirekar_cheap_column_window.Reads.Learnt
+pub exports-cheap-hosirekar-cheap-column-window : Fixes exports.specs.contracts.cheap.hosirekar_cheap_column_window.ended exports.proofs.cheap.hosirekar_cheap_column_window.Reads.Learnt
 exports-cheap-hosirekar-cheap-column-window κs a x y v w p q = (determined p q, refl)
 
-pub exports-cheap-hosirekar-cheap-column-build : Fixes exports.cheap.hosirekar_cheap_column_build.ended exports.cheap.hosirekar_cheap_column_build.Reads.Learnt
+pub exports-cheap-hosirekar-cheap-column-build : Fixes exports.specs.contracts.cheap.hosirekar_cheap_column_build.ended exports.proofs.cheap.hosirekar_cheap_column_build.Reads.Learnt
 exports-cheap-hosirekar-cheap-column-build κs a x y v w p q = let e = determined p.1 q.1 in (determined p.0 q.0, λ i. (tt, (tt, ((e i).vertices, ((e i).normals, ((e i).uvs, ((e i).indices, tt)))))))
 
-pub exports-cheap-hosirekar-cheap-column-face : Fixes exports.cheap.hosirekar_cheap_column_face.ended exports.cheap.hosirekar_cheap_column_face.Reads.Learnt
+pub exports-cheap-hosirekar-cheap-column-face : Fixes exports.specs.contracts.cheap.hosirekar_cheap_column_face.ended exports.proofs.cheap.hosirekar_cheap_column_face.Reads.Learnt
 exports-cheap-hosirekar-cheap-column-face κs a x y v w p q = let e = determined p.1 q.1 in (determined p.0 q.0, λ i. (tt, (tt, (tt, ((e i).vertices, ((e i).normals, ((e i).uvs, ((e i).indices, tt))))))))
 
-pub exports-columns-hosirekar-column-plan : Fixes exports.columns.hosirekar_column_plan.ended exports.columns.hosirekar_column_plan.Reads.Learnt
+pub exports-columns-hosirekar-column-plan : Fixes exports.specs.contracts.columns.hosirekar_column_plan.ended exports.proofs.columns.hosirekar_column_plan.Reads.Learnt
 exports-columns-hosirekar-column-plan κs a x y v w p q = (determined p q, refl)
 
-pub exports-columns-hosirekar-column-faces : Fixes exports.columns.hosirekar_column_faces.ended exports.columns.hosirekar_column_faces.Reads.Learnt
+pub exports-columns-hosirekar-column-faces : Fixes exports.specs.contracts.columns.hosirekar_column_faces.ended exports.proofs.columns.hosirekar_column_faces.Reads.Learnt
 exports-columns-hosirekar-column-faces κs a x y v w p q = (determined p q, refl)
 
-pub exports-columns-hosirekar-column-window : Fixes exports.columns.hosirekar_column_window.ended exports.columns.hosirekar_column_window.Reads.Learnt
+pub exports-columns-hosirekar-column-window : Fixes exports.specs.contracts.columns.hosirekar_column_window.ended exports.proofs.columns.hosirekar_column_window.Reads.Learnt
 exports-columns-hosirekar-column-window κs a x y v w p q = (determined p q, refl)
 
-pub exports-columns-hosirekar-column-build : Fixes exports.columns.hosirekar_column_build.ended exports.columns.hosirekar_column_build.Reads.Learnt
+pub exports-columns-hosirekar-column-build : Fixes exports.specs.contracts.columns.hosirekar_column_build.ended exports.proofs.columns.hosirekar_column_build.Reads.Learnt
 exports-columns-hosirekar-column-build κs a x y v w p q = let e = determined p.1 q.1 in (determined p.0 q.0, λ i. (tt, (tt, (tt, (tt, (tt, ((e i).vertices, ((e i).normals, ((e i).uvs, ((e i).indices, tt))))))))))
 
-pub exports-columns-hosirekar-column-face : Fixes exports.columns.hosirekar_column_face.ended exports.columns.hosirekar_column_face.Reads.Learnt
+pub exports-columns-hosirekar-column-face : Fixes exports.specs.contracts.columns.hosirekar_column_face.ended exports.proofs.columns.hosirekar_column_face.Reads.Learnt
 exports-columns-hosirekar-column-face κs a x y v w p q = let e = determined p.1 q.1 in (determined p.0 q.0, λ i. (tt, (tt, (tt, (tt, (tt, (tt, ((e i).vertices, ((e i).normals, ((e i).uvs, ((e i).indices, tt)))))))))))
 
-pub exports-merging-hosirekar-merge : Fixes exports.merging.hosirekar_merge.ended exports.merging.hosirekar_merge.Reads.Learnt
+pub exports-merging-hosirekar-merge : Fixes exports.specs.contracts.merging.hosirekar_merge.ended exports.proofs.merging.hosirekar_merge.Reads.Learnt
 exports-merging-hosirekar-merge κs a x y v w p q = let e = determined p.1 q.1 in (determined p.0 q.0, λ i. (tt, (tt, (tt, (tt, (tt, (tt, ((e i).vertices, ((e i).normals, ((e i).uvs, ((e i).indices, tt)))))))))))
 
-pub exports-numbers-hosirekar-root : Fixes exports.numbers.hosirekar_root.ended exports.numbers.hosirekar_root.Reads.Learnt
+pub exports-numbers-hosirekar-root : Fixes exports.specs.contracts.numbers.hosirekar_root.ended exports.proofs.numbers.hosirekar_root.Reads.Learnt
 exports-numbers-hosirekar-root κs a x y v w p q = (determined p q, refl)
 
-pub exports-numbers-hosirekar-fused : Fixes exports.numbers.hosirekar_fused.ended exports.numbers.hosirekar_fused.Reads.Learnt
+pub exports-numbers-hosirekar-fused : Fixes exports.specs.contracts.numbers.hosirekar_fused.ended exports.proofs.numbers.hosirekar_fused.Reads.Learnt
 exports-numbers-hosirekar-fused κs a x y v w p q = (determined p q, refl)
 
-pub exports-plane-hosirekar-plane-plan : Fixes exports.plane.hosirekar_plane_plan.ended exports.plane.hosirekar_plane_plan.Reads.Learnt
+pub exports-plane-hosirekar-plane-plan : Fixes exports.specs.contracts.plane.hosirekar_plane_plan.ended exports.proofs.plane.hosirekar_plane_plan.Reads.Learnt
 exports-plane-hosirekar-plane-plan κs a x y v w p q = (determined p q, refl)
 
-pub exports-plane-hosirekar-plane-faces : Fixes exports.plane.hosirekar_plane_faces.ended exports.plane.hosirekar_plane_faces.Reads.Learnt
+pub exports-plane-hosirekar-plane-faces : Fixes exports.specs.contracts.plane.hosirekar_plane_faces.ended exports.proofs.plane.hosirekar_plane_faces.Reads.Learnt
 exports-plane-hosirekar-plane-faces κs a x y v w p q = (determined p q, refl)
 
-pub exports-plane-hosirekar-plane-window : Fixes exports.plane.hosirekar_plane_window.ended exports.plane.hosirekar_plane_window.Reads.Learnt
+pub exports-plane-hosirekar-plane-window : Fixes exports.specs.contracts.plane.hosirekar_plane_window.ended exports.proofs.plane.hosirekar_plane_window.Reads.Learnt
 exports-plane-hosirekar-plane-window κs a x y v w p q = (determined p q, refl)
 
-pub exports-plane-hosirekar-plane-build : Fixes exports.plane.hosirekar_plane_build.ended exports.plane.hosirekar_plane_build.Reads.Learnt
+pub exports-plane-hosirekar-plane-build : Fixes exports.specs.contracts.plane.hosirekar_plane_build.ended exports.proofs.plane.hosirekar_plane_build.Reads.Learnt
 exports-plane-hosirekar-plane-build κs a x y v w p q = let e = determined p.1 q.1 in (determined p.0 q.0, λ i. (tt, (tt, (tt, (tt, ((e i).vertices, ((e i).normals, ((e i).uvs, ((e i).indices, tt)))))))))
 
-pub exports-plane-hosirekar-plane-face : Fixes exports.plane.hosirekar_plane_face.ended exports.plane.hosirekar_plane_face.Reads.Learnt
+pub exports-plane-hosirekar-plane-face : Fixes exports.specs.contracts.plane.hosirekar_plane_face.ended exports.proofs.plane.hosirekar_plane_face.Reads.Learnt
 exports-plane-hosirekar-plane-face κs a x y v w p q = let e = determined p.1 q.1 in (determined p.0 q.0, λ i. (tt, (tt, (tt, (tt, (tt, ((e i).vertices, ((e i).normals, ((e i).uvs, ((e i).indices, tt))))))))))
 
-pub exports-stl-hosirekar-stl-write : Fixes exports.stl.hosirekar_stl_write.ended exports.stl.hosirekar_stl_write.Reads.Learnt
+pub exports-stl-hosirekar-stl-write : Fixes exports.specs.contracts.stl.hosirekar_stl_write.ended exports.proofs.stl.hosirekar_stl_write.Reads.Learnt
 exports-stl-hosirekar-stl-write κs a x y v w p q = let e = determined p.1 q.1 in (determined p.0 q.0, λ i. (tt, (tt, (tt, (tt, (tt, (e i, tt)))))))
 
-pub exports-stl-hosirekar-stl-read : Fixes exports.stl.hosirekar_stl_read.ended exports.stl.hosirekar_stl_read.Reads.Learnt
+pub exports-stl-hosirekar-stl-read : Fixes exports.specs.contracts.stl.hosirekar_stl_read.ended exports.proofs.stl.hosirekar_stl_read.Reads.Learnt
 exports-stl-hosirekar-stl-read κs a x y v w p q = let e = determined p.1 q.1 in (determined p.0 q.0, λ i. (tt, ((e i).vertices, ((e i).normals, ((e i).uvs, ((e i).indices, tt))))))
 
-pub exports-stored-hosirekar-scale : Fixes exports.stored.hosirekar_scale.ended exports.stored.hosirekar_scale.Reads.Learnt
+pub exports-stored-hosirekar-scale : Fixes exports.specs.contracts.stored.hosirekar_scale.ended exports.proofs.stored.hosirekar_scale.Reads.Learnt
 exports-stored-hosirekar-scale κs a x y v w p q = let e = determined p.1 q.1 in (determined p.0 q.0, λ i. (tt, (tt, ((e i).vertices, (tt, (tt, (tt, tt)))))))
 
-pub exports-stored-hosirekar-offset : Fixes exports.stored.hosirekar_offset.ended exports.stored.hosirekar_offset.Reads.Learnt
+pub exports-stored-hosirekar-offset : Fixes exports.specs.contracts.stored.hosirekar_offset.ended exports.proofs.stored.hosirekar_offset.Reads.Learnt
 exports-stored-hosirekar-offset κs a x y v w p q = let e = determined p.1 q.1 in (determined p.0 q.0, λ i. (tt, (tt, ((e i).vertices, (tt, (tt, (tt, tt)))))))
 
-pub exports-stored-hosirekar-texture-scale : Fixes exports.stored.hosirekar_texture_scale.ended exports.stored.hosirekar_texture_scale.Reads.Learnt
+pub exports-stored-hosirekar-texture-scale : Fixes exports.specs.contracts.stored.hosirekar_texture_scale.ended exports.proofs.stored.hosirekar_texture_scale.Reads.Learnt
 exports-stored-hosirekar-texture-scale κs a x y v w p q = let e = determined p.1 q.1 in (determined p.0 q.0, λ i. (tt, (tt, (tt, (tt, ((e i).uvs, (tt, tt)))))))
 
-pub exports-stored-hosirekar-centroid : Fixes exports.stored.hosirekar_centroid.ended exports.stored.hosirekar_centroid.Reads.Learnt
+pub exports-stored-hosirekar-centroid : Fixes exports.specs.contracts.stored.hosirekar_centroid.ended exports.proofs.stored.hosirekar_centroid.Reads.Learnt
 exports-stored-hosirekar-centroid κs a x y v w p q = (determined p q, refl)
 
-pub exports-stored-hosirekar-uv-centroid : Fixes exports.stored.hosirekar_uv_centroid.ended exports.stored.hosirekar_uv_centroid.Reads.Learnt
+pub exports-stored-hosirekar-uv-centroid : Fixes exports.specs.contracts.stored.hosirekar_uv_centroid.ended exports.proofs.stored.hosirekar_uv_centroid.Reads.Learnt
 exports-stored-hosirekar-uv-centroid κs a x y v w p q = (determined p q, refl)
 
-pub exports-texture-hosirekar-alter-uv : Fixes exports.texture.hosirekar_alter_uv.ended exports.texture.hosirekar_alter_uv.Reads.Learnt
+pub exports-texture-hosirekar-alter-uv : Fixes exports.specs.contracts.texture.hosirekar_alter_uv.ended exports.proofs.texture.hosirekar_alter_uv.Reads.Learnt
 exports-texture-hosirekar-alter-uv κs a x y v w p q = (determined p q, refl)
 
-pub exports-texture-hosirekar-wrap-uv : Fixes exports.texture.hosirekar_wrap_uv.ended exports.texture.hosirekar_wrap_uv.Reads.Learnt
+pub exports-texture-hosirekar-wrap-uv : Fixes exports.specs.contracts.texture.hosirekar_wrap_uv.ended exports.proofs.texture.hosirekar_wrap_uv.Reads.Learnt
 exports-texture-hosirekar-wrap-uv κs a x y v w p q = (determined p q, refl)
 
-abbrev export-load-promise : Promise exports.loading.hosirekar_heightmap_load.ended
+abbrev export-load-promise : Promise exports.specs.contracts.loading.hosirekar_heightmap_load.ended
 export-load-promise κs a r e = Loads (λ n l m. answer_to_c (load_answer n l m)) a.0.now a.1.0 a.1.1.0 r e.1.0 e.1.1.0
 
-pub exports-loading-hosirekar-heightmap-load-says : {M : Type 1} {𝓤 : Ura M} (𝓛 : Logic 𝓤) (mem : Memory → SProp 𝓤) (run : Routine → Fun 𝓤) → Says exports.loading.hosirekar_heightmap_load.ended (exports.loading.hosirekar_heightmap_load.clauses 𝓛 mem run) export-load-promise
+pub exports-loading-hosirekar-heightmap-load-says : {M : Type 1} {𝓤 : Ura M} (𝓛 : Logic 𝓤) (mem : Memory → SProp 𝓤) (run : Routine → Fun 𝓤) → Says exports.specs.contracts.loading.hosirekar_heightmap_load.ended (exports.specs.contracts.loading.hosirekar_heightmap_load.clauses 𝓛 mem run) export-load-promise
 exports-loading-hosirekar-heightmap-load-says 𝓛 mem run κs a g r e = refl
 
-pub exports-loading-hosirekar-heightmap-load : Fixes exports.loading.hosirekar_heightmap_load.ended export-load-promise
+pub exports-loading-hosirekar-heightmap-load-learnt : Fixes exports.specs.contracts.loading.hosirekar_heightmap_load.ended exports.proofs.loading.hosirekar_heightmap_load.Reads.Learnt
+exports-loading-hosirekar-heightmap-load-learnt κs a x y v w p q = (determined p.0 q.0, λ i. (tt, (determined p.1 q.1 i, (determined p.2 q.2 i, tt))))
+
+pub exports-loading-hosirekar-heightmap-load : Fixes exports.specs.contracts.loading.hosirekar_heightmap_load.ended export-load-promise
 exports-loading-hosirekar-heightmap-load κs a x y v w p q = (determined p.0 q.0, λ i. (tt, (determined p.1 q.1 i, (determined p.2 q.2 i, tt))))
 
-pub exports-maps-hosirekar-heightmap-plan : Fixes exports.maps.hosirekar_heightmap_plan.ended exports.maps.hosirekar_heightmap_plan.Reads.Learnt
+pub exports-maps-hosirekar-heightmap-plan : Fixes exports.specs.contracts.maps.hosirekar_heightmap_plan.ended exports.proofs.maps.hosirekar_heightmap_plan.Reads.Learnt
 exports-maps-hosirekar-heightmap-plan κs a x y v w p q = (determined p q, refl)
 
-pub exports-maps-hosirekar-heightmap-faces : Fixes exports.maps.hosirekar_heightmap_faces.ended exports.maps.hosirekar_heightmap_faces.Reads.Learnt
+pub exports-maps-hosirekar-heightmap-faces : Fixes exports.specs.contracts.maps.hosirekar_heightmap_faces.ended exports.proofs.maps.hosirekar_heightmap_faces.Reads.Learnt
 exports-maps-hosirekar-heightmap-faces κs a x y v w p q = (determined p q, refl)
 
-pub exports-maps-hosirekar-heightmap-window : Fixes exports.maps.hosirekar_heightmap_window.ended exports.maps.hosirekar_heightmap_window.Reads.Learnt
+pub exports-maps-hosirekar-heightmap-window : Fixes exports.specs.contracts.maps.hosirekar_heightmap_window.ended exports.proofs.maps.hosirekar_heightmap_window.Reads.Learnt
 exports-maps-hosirekar-heightmap-window κs a x y v w p q = (determined p q, refl)
 
-pub exports-maps-hosirekar-heightmap-why : Fixes exports.maps.hosirekar_heightmap_why.ended exports.maps.hosirekar_heightmap_why.Reads.Learnt
+pub exports-maps-hosirekar-heightmap-why : Fixes exports.specs.contracts.maps.hosirekar_heightmap_why.ended exports.proofs.maps.hosirekar_heightmap_why.Reads.Learnt
 exports-maps-hosirekar-heightmap-why κs a x y v w p q = (determined p q, refl)
 
-pub exports-maps-hosirekar-heightmap-which : Fixes exports.maps.hosirekar_heightmap_which.ended exports.maps.hosirekar_heightmap_which.Reads.Learnt
+pub exports-maps-hosirekar-heightmap-which : Fixes exports.specs.contracts.maps.hosirekar_heightmap_which.ended exports.proofs.maps.hosirekar_heightmap_which.Reads.Learnt
 exports-maps-hosirekar-heightmap-which κs a x y v w p q = (determined p q, refl)
 
-pub exports-maps-hosirekar-heightmap-build : Fixes exports.maps.hosirekar_heightmap_build.ended exports.maps.hosirekar_heightmap_build.Reads.Learnt
+pub exports-maps-hosirekar-heightmap-build : Fixes exports.specs.contracts.maps.hosirekar_heightmap_build.ended exports.proofs.maps.hosirekar_heightmap_build.Reads.Learnt
 exports-maps-hosirekar-heightmap-build κs a x y v w p q = let e = determined p.1 q.1 in (determined p.0 q.0, λ i. (tt, (tt, (tt, (tt, (tt, (tt, (tt, (tt, ((e i).vertices, ((e i).normals, ((e i).uvs, ((e i).indices, tt)))))))))))))
 
-pub exports-maps-hosirekar-heightmap-face : Fixes exports.maps.hosirekar_heightmap_face.ended exports.maps.hosirekar_heightmap_face.Reads.Learnt
+pub exports-maps-hosirekar-heightmap-face : Fixes exports.specs.contracts.maps.hosirekar_heightmap_face.ended exports.proofs.maps.hosirekar_heightmap_face.Reads.Learnt
 exports-maps-hosirekar-heightmap-face κs a x y v w p q = let e = determined p.1 q.1 in (determined p.0 q.0, λ i. (tt, (tt, (tt, (tt, (tt, (tt, (tt, (tt, (tt, ((e i).vertices, ((e i).normals, ((e i).uvs, ((e i).indices, tt))))))))))))))

@@ -16,7 +16,7 @@ Fixes T P =
     (κs : Lfts T.signature.lifetimes) (a : Args T.signature κs) (x y : Res T.signature κs) (v w : Lasts T κs a)
     → P κs a x (at_exit T κs a v) → P κs a y (at_exit T κs a w) → (x ≡ y) × (v ≡ w)
 
--- the clauses of a function that is proved by a walk, which has no plain reading of its own: they ensure that promise and no more
+-- of the clauses of a function: they ensure that promise, which is written out beside them, and no more
 abbrev pub Says : {M : Type 1} {𝓤 : Ura M} (T : Ended) → Clauses 𝓤 T → Promise T → Type 2
 Says {M} {𝓤} T c P =
     (κs : Lfts T.signature.lifetimes) (a : Args T.signature κs) (g : (c κs a).ghost) (r : Res T.signature κs) (e : AtExit T κs) → (c κs a).ensures g r e ≡ fact 𝓤 (P κs a r e)
