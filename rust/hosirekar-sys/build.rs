@@ -10,7 +10,7 @@ use std::{env, fs};
 /// The variable that names another folder to take the archive from.
 const FOLDER: &str = "HOSIREKAR_ARCHIVE";
 
-/// The folder that `rt staticlib` fills, seen from this package, where cargo runs a build script.
+/// The folder that `tools/archive` fills, seen from this package, where cargo runs a build script.
 const OWN: &str = "../../target/staticlib";
 
 /// The archive's name, as the linker looks for it.
@@ -42,7 +42,7 @@ fn link(folder: &Path) -> Result<(), String> {
     let shown = archive.strip_prefix("../..").unwrap_or(&archive).display();
     if !archive.is_file() {
         return Err(format!(
-            "{shown} is not there: make it with `rt staticlib exports`"
+            "{shown} is not there: make it with `tools/archive`"
         ));
     }
     fs::copy(&archive, out.join(ARCHIVE)).map_err(|why| format!("{shown} is not copied: {why}"))?;

@@ -9,28 +9,21 @@ use boundary::jobs::CCheapColumn;
 use boundary::to_c::{CAnswer, CFaces, CWindow};
 
 // The counts of the job, or why it is refused.
-#[unsafe(no_mangle)]
-pub extern "C" fn hosirekar_cheap_column_plan(job: CCheapColumn, corners: &[f32]) -> CAnswer
+pub fn hosirekar_cheap_column_plan(job: CCheapColumn, corners: &[f32]) -> CAnswer
     ensures { result ≡ answer_to_c (planned (cheap_column_of job) corners.now) }
 {
     boundary::to_c::answer_to_c(cheap_column::plan(boundary::jobs::cheap_column_of(job), corners))
 }
 
 // How many faces the job has, or why it is refused.
-#[unsafe(no_mangle)]
-pub extern "C" fn hosirekar_cheap_column_faces(job: CCheapColumn, corners: &[f32]) -> CFaces
+pub fn hosirekar_cheap_column_faces(job: CCheapColumn, corners: &[f32]) -> CFaces
     ensures { result ≡ faces_to_c (faces_told (cheap_column_of job) corners.now) }
 {
     boundary::to_c::faces_to_c(cheap_column::faces(boundary::jobs::cheap_column_of(job), corners))
 }
 
 // The places of one face of the job, by its number, or why there are none.
-#[unsafe(no_mangle)]
-pub extern "C" fn hosirekar_cheap_column_window(
-    job: CCheapColumn,
-    corners: &[f32],
-    number: usize,
-) -> CWindow
+pub fn hosirekar_cheap_column_window(job: CCheapColumn, corners: &[f32], number: usize) -> CWindow
     ensures { result ≡ window_to_c (window_told (cheap_column_of job) corners.now number) }
 {
     boundary::to_c::window_to_c(cheap_column::window(
@@ -41,8 +34,7 @@ pub extern "C" fn hosirekar_cheap_column_window(
 }
 
 // The whole job, written to four buffers, or nothing.
-#[unsafe(no_mangle)]
-pub extern "C" fn hosirekar_cheap_column_build(
+pub fn hosirekar_cheap_column_build(
     job: CCheapColumn,
     corners: &[f32],
     vertices: &mut [f32],
@@ -64,8 +56,7 @@ pub extern "C" fn hosirekar_cheap_column_build(
 }
 
 // One face of the job, which has one: that of number 0.
-#[unsafe(no_mangle)]
-pub extern "C" fn hosirekar_cheap_column_face(
+pub fn hosirekar_cheap_column_face(
     job: CCheapColumn,
     corners: &[f32],
     number: usize,

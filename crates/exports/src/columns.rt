@@ -11,8 +11,7 @@ use boundary::jobs::CColumn;
 use boundary::to_c::{CAnswer, CFaces, CWindow};
 
 // The counts of the job, or why it is refused.
-#[unsafe(no_mangle)]
-pub extern "C" fn hosirekar_column_plan(
+pub fn hosirekar_column_plan(
     job: CColumn,
     pairs: &[f32],
     corners: &[f32],
@@ -31,8 +30,7 @@ pub extern "C" fn hosirekar_column_plan(
 }
 
 // How many faces the job has, or why it is refused.
-#[unsafe(no_mangle)]
-pub extern "C" fn hosirekar_column_faces(
+pub fn hosirekar_column_faces(
     job: CColumn,
     pairs: &[f32],
     corners: &[f32],
@@ -51,8 +49,7 @@ pub extern "C" fn hosirekar_column_faces(
 }
 
 // The places of one face of the job, by its number, or why there are none.
-#[unsafe(no_mangle)]
-pub extern "C" fn hosirekar_column_window(
+pub fn hosirekar_column_window(
     job: CColumn,
     pairs: &[f32],
     corners: &[f32],
@@ -73,8 +70,7 @@ pub extern "C" fn hosirekar_column_window(
 }
 
 // The whole job, written to four buffers, or nothing.
-#[unsafe(no_mangle)]
-pub extern "C" fn hosirekar_column_build(
+pub fn hosirekar_column_build(
     job: CColumn,
     pairs: &[f32],
     corners: &[f32],
@@ -102,8 +98,7 @@ pub extern "C" fn hosirekar_column_build(
 }
 
 // One face of the job, by its number: the parts of each side, then the top, then the bottom.
-#[unsafe(no_mangle)]
-pub extern "C" fn hosirekar_column_face(
+pub fn hosirekar_column_face(
     job: CColumn,
     pairs: &[f32],
     corners: &[f32],

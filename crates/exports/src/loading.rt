@@ -7,8 +7,7 @@ use cells::Cell;
 
 // The cells of the records in the two lists that the calls of a map take, or nothing. Of each list the cells' part is
 // its first 27 or 6 numbers a cell. Both counts are 0.
-#[unsafe(no_mangle)]
-pub extern "C" fn hosirekar_heightmap_load(
+pub fn hosirekar_heightmap_load(
     records: &[Cell],
     cells: &mut [f32],
     neighbours: &mut [u32],

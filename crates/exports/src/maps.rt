@@ -13,8 +13,7 @@ use boundary::to_c::{CAnswer, CFaces, CWhich, CWhy, CWindow};
 use heightmap_why::{WhichAnswer, WhyAnswer};
 
 // The counts of the job, or why it is refused.
-#[unsafe(no_mangle)]
-pub extern "C" fn hosirekar_heightmap_plan(
+pub fn hosirekar_heightmap_plan(
     job: CHeightMap,
     cells: &[f32],
     neighbours: &[u32],
@@ -42,8 +41,7 @@ pub extern "C" fn hosirekar_heightmap_plan(
 }
 
 // How many faces the job has, or why it is refused.
-#[unsafe(no_mangle)]
-pub extern "C" fn hosirekar_heightmap_faces(
+pub fn hosirekar_heightmap_faces(
     job: CHeightMap,
     cells: &[f32],
     neighbours: &[u32],
@@ -72,8 +70,7 @@ pub extern "C" fn hosirekar_heightmap_faces(
 }
 
 // The places of one face of the job, by its number, or why there are none.
-#[unsafe(no_mangle)]
-pub extern "C" fn hosirekar_heightmap_window(
+pub fn hosirekar_heightmap_window(
     job: CHeightMap,
     cells: &[f32],
     neighbours: &[u32],
@@ -105,8 +102,7 @@ pub extern "C" fn hosirekar_heightmap_window(
 
 // Why a side of a cell is there or is not: 1 sides are off, 2 no neighbour and no fringe height, 3 the neighbour or the
 // fringe as high or higher, with that height, 4 there, with the number of its face.
-#[unsafe(no_mangle)]
-pub extern "C" fn hosirekar_heightmap_why(
+pub fn hosirekar_heightmap_why(
     job: CHeightMap,
     cells: &[f32],
     neighbours: &[u32],
@@ -138,8 +134,7 @@ pub extern "C" fn hosirekar_heightmap_why(
 }
 
 // Which face a number is: 1 the cap of a cell, 2 a side of a cell.
-#[unsafe(no_mangle)]
-pub extern "C" fn hosirekar_heightmap_which(
+pub fn hosirekar_heightmap_which(
     job: CHeightMap,
     cells: &[f32],
     neighbours: &[u32],
@@ -169,8 +164,7 @@ pub extern "C" fn hosirekar_heightmap_which(
 }
 
 // The whole job, written to four buffers, or nothing.
-#[unsafe(no_mangle)]
-pub extern "C" fn hosirekar_heightmap_build(
+pub fn hosirekar_heightmap_build(
     job: CHeightMap,
     cells: &[f32],
     neighbours: &[u32],
@@ -207,8 +201,7 @@ pub extern "C" fn hosirekar_heightmap_build(
 }
 
 // One face of the job, by its number: of each cell the cap, then the sides that stand.
-#[unsafe(no_mangle)]
-pub extern "C" fn hosirekar_heightmap_face(
+pub fn hosirekar_heightmap_face(
     job: CHeightMap,
     cells: &[f32],
     neighbours: &[u32],

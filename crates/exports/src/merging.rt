@@ -9,8 +9,7 @@ use boundary::from_c::CCounts;
 use boundary::to_c::CAnswer;
 
 // Appends a source mesh to a target, or writes nothing.
-#[unsafe(no_mangle)]
-pub extern "C" fn hosirekar_merge(
+pub fn hosirekar_merge(
     source: CCounts,
     svertices: &[f32],
     snormals: &[f32],

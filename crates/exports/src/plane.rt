@@ -9,13 +9,7 @@ use boundary::jobs::CPlane;
 use boundary::to_c::{CAnswer, CFaces, CWindow};
 
 // The counts of the job, or why it is refused.
-#[unsafe(no_mangle)]
-pub extern "C" fn hosirekar_plane_plan(
-    job: CPlane,
-    corners: &[f32],
-    numbers: &[f32],
-    marks: &[u8],
-) -> CAnswer
+pub fn hosirekar_plane_plan(job: CPlane, corners: &[f32], numbers: &[f32], marks: &[u8]) -> CAnswer
     ensures { result ≡ answer_to_c (planned (plane_of job) (lent corners numbers marks)) }
 {
     boundary::to_c::answer_to_c(plane_builder::plan(
@@ -27,13 +21,7 @@ pub extern "C" fn hosirekar_plane_plan(
 }
 
 // How many faces the job has, or why it is refused.
-#[unsafe(no_mangle)]
-pub extern "C" fn hosirekar_plane_faces(
-    job: CPlane,
-    corners: &[f32],
-    numbers: &[f32],
-    marks: &[u8],
-) -> CFaces
+pub fn hosirekar_plane_faces(job: CPlane, corners: &[f32], numbers: &[f32], marks: &[u8]) -> CFaces
     ensures { result ≡ faces_to_c (faces_told (plane_of job) (lent corners numbers marks)) }
 {
     boundary::to_c::faces_to_c(plane_builder::faces(
@@ -45,8 +33,7 @@ pub extern "C" fn hosirekar_plane_faces(
 }
 
 // The places of one face of the job, by its number, or why there are none.
-#[unsafe(no_mangle)]
-pub extern "C" fn hosirekar_plane_window(
+pub fn hosirekar_plane_window(
     job: CPlane,
     corners: &[f32],
     numbers: &[f32],
@@ -65,8 +52,7 @@ pub extern "C" fn hosirekar_plane_window(
 }
 
 // The whole job, written to four buffers, or nothing.
-#[unsafe(no_mangle)]
-pub extern "C" fn hosirekar_plane_build(
+pub fn hosirekar_plane_build(
     job: CPlane,
     corners: &[f32],
     numbers: &[f32],
@@ -92,8 +78,7 @@ pub extern "C" fn hosirekar_plane_build(
 }
 
 // One face of the job, which has one: that of number 0.
-#[unsafe(no_mangle)]
-pub extern "C" fn hosirekar_plane_face(
+pub fn hosirekar_plane_face(
     job: CPlane,
     corners: &[f32],
     numbers: &[f32],

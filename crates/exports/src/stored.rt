@@ -10,8 +10,7 @@ use boundary::from_c::{CCounts, CVec2, CVec3};
 use boundary::to_c::{CAnswer, CCentroid, CUvCentroid};
 
 // Multiplies each position, component by component.
-#[unsafe(no_mangle)]
-pub extern "C" fn hosirekar_scale(
+pub fn hosirekar_scale(
     counts: CCounts,
     by: CVec3,
     vertices: &mut [f32],
@@ -33,8 +32,7 @@ pub extern "C" fn hosirekar_scale(
 }
 
 // Adds to each position.
-#[unsafe(no_mangle)]
-pub extern "C" fn hosirekar_offset(
+pub fn hosirekar_offset(
     counts: CCounts,
     by: CVec3,
     vertices: &mut [f32],
@@ -56,8 +54,7 @@ pub extern "C" fn hosirekar_offset(
 }
 
 // Multiplies each uv, component by component.
-#[unsafe(no_mangle)]
-pub extern "C" fn hosirekar_texture_scale(
+pub fn hosirekar_texture_scale(
     counts: CCounts,
     by: CVec2,
     vertices: &[f32],
@@ -79,8 +76,7 @@ pub extern "C" fn hosirekar_texture_scale(
 }
 
 // The middle of the positions.
-#[unsafe(no_mangle)]
-pub extern "C" fn hosirekar_centroid(
+pub fn hosirekar_centroid(
     counts: CCounts,
     vertices: &[f32],
     normals: &[f32],
@@ -99,8 +95,7 @@ pub extern "C" fn hosirekar_centroid(
 }
 
 // The middle of the uvs.
-#[unsafe(no_mangle)]
-pub extern "C" fn hosirekar_uv_centroid(
+pub fn hosirekar_uv_centroid(
     counts: CCounts,
     vertices: &[f32],
     normals: &[f32],

@@ -6,8 +6,7 @@ ghost use Rattle.boundary.specs.ToC.{point_to_c};
 
 use boundary::from_c::{CUvOptions, CVec2};
 
-#[unsafe(no_mangle)]
-pub extern "C" fn hosirekar_alter_uv(options: CUvOptions, uv: CVec2) -> CVec2
+pub fn hosirekar_alter_uv(options: CUvOptions, uv: CVec2) -> CVec2
     ensures { result ≡ point_to_c (altered (uv_options_of options) (vec2_of uv)) }
 {
     boundary::to_c::point_to_c(face::uv_mapping::alter_uv(
@@ -16,8 +15,7 @@ pub extern "C" fn hosirekar_alter_uv(options: CUvOptions, uv: CVec2) -> CVec2
     ))
 }
 
-#[unsafe(no_mangle)]
-pub extern "C" fn hosirekar_wrap_uv(point: CVec2) -> CVec2
+pub fn hosirekar_wrap_uv(point: CVec2) -> CVec2
     ensures { result ≡ point_to_c (wrapped (vec2_of point)) }
 {
     boundary::to_c::point_to_c(face::uv_mapping::wrap_uv(boundary::from_c::vec2_of(point)))

@@ -760,11 +760,11 @@ exports-plane-hosirekar-plane-build κs a x y v w p q = let e = determined p.1 q
 pub exports-plane-hosirekar-plane-face : Fixes exports.specs.contracts.plane.hosirekar_plane_face.ended exports.proofs.plane.hosirekar_plane_face.Reads.Learnt
 exports-plane-hosirekar-plane-face κs a x y v w p q = let e = determined p.1 q.1 in (determined p.0 q.0, λ i. (tt, (tt, (tt, (tt, (tt, ((e i).vertices, ((e i).normals, ((e i).uvs, ((e i).indices, tt))))))))))
 
-pub exports-stl-hosirekar-stl-write : Fixes exports.specs.contracts.stl.hosirekar_stl_write.ended exports.proofs.stl.hosirekar_stl_write.Reads.Learnt
-exports-stl-hosirekar-stl-write κs a x y v w p q = let e = determined p.1 q.1 in (determined p.0 q.0, λ i. (tt, (tt, (tt, (tt, (tt, (e i, tt)))))))
+pub exports-files-hosirekar-stl-write : Fixes exports.specs.contracts.files.hosirekar_stl_write.ended exports.proofs.files.hosirekar_stl_write.Reads.Learnt
+exports-files-hosirekar-stl-write κs a x y v w p q = let e = determined p.1 q.1 in (determined p.0 q.0, λ i. (tt, (tt, (tt, (tt, (tt, (e i, tt)))))))
 
-pub exports-stl-hosirekar-stl-read : Fixes exports.specs.contracts.stl.hosirekar_stl_read.ended exports.proofs.stl.hosirekar_stl_read.Reads.Learnt
-exports-stl-hosirekar-stl-read κs a x y v w p q = let e = determined p.1 q.1 in (determined p.0 q.0, λ i. (tt, ((e i).vertices, ((e i).normals, ((e i).uvs, ((e i).indices, tt))))))
+pub exports-files-hosirekar-stl-read : Fixes exports.specs.contracts.files.hosirekar_stl_read.ended exports.proofs.files.hosirekar_stl_read.Reads.Learnt
+exports-files-hosirekar-stl-read κs a x y v w p q = let e = determined p.1 q.1 in (determined p.0 q.0, λ i. (tt, ((e i).vertices, ((e i).normals, ((e i).uvs, ((e i).indices, tt))))))
 
 pub exports-stored-hosirekar-scale : Fixes exports.specs.contracts.stored.hosirekar_scale.ended exports.proofs.stored.hosirekar_scale.Reads.Learnt
 exports-stored-hosirekar-scale κs a x y v w p q = let e = determined p.1 q.1 in (determined p.0 q.0, λ i. (tt, (tt, ((e i).vertices, (tt, (tt, (tt, tt)))))))

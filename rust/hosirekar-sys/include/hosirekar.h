@@ -1,6 +1,6 @@
 /* Meshes of hexagon panels, made by functions that are proved for every input.
  *
- * Link with libexports.a, which `rt staticlib exports` makes for x86-64 Linux. A test holds this file to
+ * Link with libexports.a, which `tools/archive` makes for x86-64 Linux. A test holds this file to
  * the source of the archive.
  *
  * A mesh is four buffers: three numbers a vertex in the vertices and in the normals, two in the uvs, and

@@ -67,7 +67,7 @@ fn structure((name, shape): (&String, &Shape)) -> String {
 }
 
 fn source_structs() -> Shapes {
-    structs(&archive(), "#[repr(C)] pub struct ")
+    structs(&archive())
 }
 
 /// `NoFace` as `NO_FACE`.

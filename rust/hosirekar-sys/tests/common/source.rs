@@ -32,11 +32,11 @@ pub fn plain(text: &str) -> String {
         .join(" ")
 }
 
-/// All of the archive's source: the functions stand in `exports`, their structs in `boundary`, and
+/// All of the archive's source: the functions stand in `exports_c`, their structs in `boundary`, and
 /// the record of a cell in `cells`.
 pub fn archive() -> String {
     let folders =
-        ["exports", "boundary", "cells"].map(|name| package().join("../../crates").join(name));
+        ["exports_c", "boundary", "cells"].map(|name| package().join("../../crates").join(name));
     let mut files: Vec<PathBuf> = folders
         .iter()
         .flat_map(|folder| {
@@ -85,9 +85,19 @@ pub fn functions(text: &str, mark: &str) -> Shapes {
 }
 
 pub fn exported() -> Shapes {
-    functions(&archive(), "#[no_mangle] pub extern \"C\" fn ")
+    functions(&archive(), "#[unsafe(no_mangle)] pub extern \"C\" fn ")
 }
 
-pub fn structs(text: &str, mark: &str) -> Shapes {
-    shapes(text, mark, '{', '}')
+/// The text without what its structs derive.
+fn underived(text: &str) -> String {
+    let mut parts = text.split("#[derive(");
+    let first = parts.next().unwrap_or("").to_string();
+    parts.fold(first, |kept, part| {
+        kept + part.split_once(")] ").map_or(part, |(_, rest)| rest)
+    })
+}
+
+/// The structs that are laid out as C does. What they derive may differ.
+pub fn structs(text: &str) -> Shapes {
+    shapes(&underived(text), "#[repr(C)] pub struct ", '{', '}')
 }

@@ -5,7 +5,7 @@ use Rattle.buffers.specs.Laying.{four}
 use Rattle.stl_writing.specs.Writing.{file_answer, written}
 use Rattle.boundary.specs.ToC.{file_to_c}
 use Rattle.exports.proofs.Carried.{carried}
-use Rattle.exports.proofs.stl.hosirekar_stl_write.Goals as goal
+use Rattle.exports.proofs.files.hosirekar_stl_write.Goals as goal
 
 pub returns : goal.returns
 returns c = let a = c.args in

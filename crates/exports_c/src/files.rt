@@ -22,14 +22,7 @@ pub extern "C" fn hosirekar_stl_write(
     ensures answer { result ≡ file_to_c (file_answer (counts_in counts) (shown vertices normals uvs indices) (length bytes.old)) }
     ensures bytes { bytes.new ≡ written (counts_in counts) (shown vertices normals uvs indices) bytes.old }
 {
-    boundary::to_c::file_to_c(stl_writing::write(
-        boundary::from_c::counts_in(counts),
-        vertices,
-        normals,
-        uvs,
-        indices,
-        bytes,
-    ))
+    exports::files::hosirekar_stl_write(counts, vertices, normals, uvs, indices, bytes)
 }
 
 // Reads the mesh of a file, or writes nothing.
@@ -44,5 +37,5 @@ pub extern "C" fn hosirekar_stl_read(
     ensures answer { result ≡ answer_to_c (read_answer bytes.now (entering vertices normals uvs indices)) }
     ensures buffers { Become (read_back bytes.now) vertices normals uvs indices }
 {
-    boundary::to_c::answer_to_c(stl_reading::read(bytes, vertices, normals, uvs, indices))
+    exports::files::hosirekar_stl_read(bytes, vertices, normals, uvs, indices)
 }
