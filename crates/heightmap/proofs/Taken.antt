@@ -2,26 +2,30 @@
 -- the other or at least as high. Assumes nothing.
 use mathlib.Core.Path.{◌≡◌, refl, sym, ◌∙◌}
 use mathlib.Core.Logic.{inl, inr}
-use mathlib.Core.Bool.{Bool, true, false, not, ◌&&◌, ◌||◌}
-use Prim.Native.Nat.{ℕ, ◌+◌, ◌*◌, ◌<◌, ◌≤◌}
+use mathlib.Core.Bool.{Bool, true, false, not, cond, ◌&&◌, ◌||◌}
+use Prim.Native.Nat.{ℕ, zero, suc, ◌+◌, ◌*◌, ◌<◌, ◌≤◌}
 use native.Mathlib.Omega.{arith}
-use borrow.Author.Tests.{eq-eqb, eqb-true, ltb-true, ltb-false}
+use borrow.Author.Tests.{eq-eqb, eqb-true, eqb-false, ltb-true, ltb-false}
 use lib.Dec.{T, ltb, eqb}
 use lib.ListN.{length}
-use lib.Ieee.{Float, nan, inf, fin, is_nan, up, down, below, level, lt, le, eq}
+use lib.Ieee.{Float, nan, inf, fin, is_nan, of_bits, neg, up, down, below, level, lt, le, eq}
 use Rattle.face.specs.declared.triangle.Counts.{Counts}
+use Rattle.face.specs.Vec.{f0}
 use Rattle.answer.specs.declared.answer.Refusal.TheVariants.{Shape, Range, Neighbour}
 use Rattle.answer.specs.declared.answer.Answer.TheVariants.{Done}
 use Rattle.answer.specs.Checks.{in_range, all_in_range, exactly, is_neighbour, cell_count}
 use Rattle.answer.proofs.Laws.{every-at, &&-left, &&-right, given-done}
 use Rattle.answer.proofs.Bench.{nan-out-of-range}
 use Rattle.placement.specs.Options.{entry_count, is_table}
+use Rattle.placement.specs.Placing.{placement_in_range}
 use Rattle.heightmap.specs.declared.Fringe.{Fringe}
 use Rattle.heightmap.specs.declared.Fringe.TheVariants as fringe
+use Rattle.heightmap.specs.declared.HeightRange.{HeightRange}
+use Rattle.heightmap.specs.declared.HeightRange.TheVariants as heights
 use Rattle.heightmap.specs.declared.HeightMap.{HeightMap}
-use Rattle.heightmap.specs.Grid.{cells_in, height_at, nobody, neighbour_at, BeyondEdge, Beyond}
+use Rattle.heightmap.specs.Grid.{cells_in, height_at, nobody, neighbour_at, lower, kept, extreme, span_by, span_of, BeyondEdge, Beyond}
 use Rattle.heightmap.specs.HeightMap.{Lists}
-use Rattle.heightmap.specs.Tests.{fringe_shape, grid_shape, all_named, shape_of, fringe_in_range, place_of, range_of, linked_of, planned}
+use Rattle.heightmap.specs.Tests.{fringe_shape, grid_shape, all_named, shape_of, fringe_in_range, heights_in_range, origin_in_range, place_of, range_of, linked_of, planned}
 use Rattle.heightmap.specs.Names.{There}
 
 -- ---- two numbers compare
@@ -64,6 +68,23 @@ not-below (inf false) (fin t n d) p q e = refl
 not-below (fin s m d) (inf true) p q e = refl
 not-below (fin s m d) (inf false) p q e = absurd (let y : ◌≡◌ {A = ℕ} 0 1 = cc in omega arith)
 not-below (fin s m c) (fin t n d) p q e = magnitudes s t (m * up c * down d) (n * up d * down c) e
+
+-- ---- of heights in range the lowest is in range
+lower-in-range : (a b : Float) → in_range a ≡ true → in_range b ≡ true → in_range (lower a b) ≡ true
+lower-in-range a b p q = go (lt b a)
+  where
+    go : (t : Bool) → in_range (cond t b a) ≡ true
+    go true = q
+    go false = p
+
+kept-in-range : (x : Float) (h : ℕ → Float) (m : ℕ) → in_range x ≡ true → ((k : ℕ) → k < m → in_range (h k) ≡ true) → in_range (kept lower x h m) ≡ true
+kept-in-range x h zero p q = p
+kept-in-range x h (suc m) p q =
+    lower-in-range (kept lower x h m) (h m) (kept-in-range x h m p (λ k l. q k (omega arith))) (q m (omega arith))
+
+zero-in-range : in_range f0 ≡ true
+unfolding of_bits neg le
+zero-in-range = refl
 
 -- ---- what the tests of a map that is taken say
 linked-cell : (n cells : ℕ) → is_neighbour n cells ≡ true → (n ≡ nobody → ⊥) → n < cells
@@ -116,6 +137,35 @@ module _ (job : HeightMap) (ls : Lists) (c : Counts) (e : planned job ls ≡ Don
   -- ---- the heights
   pub height-in-range : (k : ℕ) → k < n → in_range (height_at ls.grid.cells k) ≡ true
   height-in-range k h = every-at in_range ls.grid.cells nan (27 * k) ranged.0 (let l = lengths.cells in omega arith)
+
+  heights-ranged : heights_in_range job.range ≡ true
+  heights-ranged =
+      let h = heights_in_range job.range in
+      let place = origin_in_range job.origin && placement_in_range job.placement in
+      let b = all_in_range ls.numbers in
+      let d = all_in_range ls.corners in
+      let f = fringe_in_range job.fringe ls.grid.fringe in
+      let a = all_in_range ls.grid.cells in
+      let p = &&-right a (f && (d && (b && (h && place)))) tested.1.0 in
+      &&-left h place (&&-right b (h && place) (&&-right d (b && (h && place)) (&&-right f (d && (b && (h && place))) p)))
+
+  least-in-range : in_range (extreme lower ls.grid.cells) ≡ true
+  least-in-range = go (eqb n 0) refl
+    where
+      go : (t : Bool) → eqb n 0 ≡ t → in_range (cond t f0 (kept lower (height_at ls.grid.cells 0) (height_at ls.grid.cells) n)) ≡ true
+      go true p = zero-in-range
+      go false p =
+          let u = eqb-false n 0 p in
+          kept-in-range (height_at ls.grid.cells 0) (height_at ls.grid.cells) n (height-in-range 0 (omega arith)) height-in-range
+
+  -- where the range of the heights starts
+  pub lowest-in-range : in_range (span_of job ls.grid).min ≡ true
+  unfolding span_of
+  lowest-in-range = go job.range heights-ranged
+    where
+      go : (r : HeightRange) → heights_in_range r ≡ true → in_range (span_by r ls.grid.cells).min ≡ true
+      go heights.OfAll h = least-in-range
+      go (heights.Of a b) h = &&-left (in_range a) (in_range b) h
 
   edge-in-range : (f : Fringe) (k d : ℕ) (x : Float) → There ls.grid k d → fringe_shape f ls.grid.fringe n ≡ true → fringe_in_range f ls.grid.fringe ≡ true
       → BeyondEdge f ls.grid k d x → in_range x ≡ true
