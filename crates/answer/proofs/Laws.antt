@@ -16,8 +16,8 @@ use Rattle.answer.specs.declared.answer.Refusal.{Refusal}
 use Rattle.answer.specs.declared.answer.Refusal.TheVariants.{Shape, Range, Neighbour, Limit, Room, NoFace, Index, Empty, Sheet, Triangles, File, Bytes}
 use Rattle.answer.specs.declared.answer.Buffer.{Buffer}
 use Rattle.answer.specs.declared.answer.Buffer.TheVariants.{Vertices, Normals, Uvs, Indices}
-use Rattle.answer.specs.declared.answer.Answer.{Answer}
-use Rattle.answer.specs.declared.answer.Answer.TheVariants.{Done, Refused}
+use Rattle.answer.specs.Answers.{Answer}
+use Rattle.std.specs.Prelude.{Ok, Err}
 use Rattle.answer.specs.Checks.{every}
 use Rattle.answer.specs.Answers.{Roomy, Short, FirstShort, Lengthened, Past, room_code, code, need, number_of, need_of, after, given, limited, named, need_for, capped, told, held, lengths, room_for, roomed}
 
@@ -98,31 +98,31 @@ module _ (k a b : ℕ) (p : 0 < k) where
   fills-not z = ne_eqb b (a * k) (λ e. z (rw e (mul-mod_left a k)))
 
 -- ---- a refused answer is not a done one, and a done one has passed each test before it
-pub not_done : {A : Type 0} {e : Refusal} {c : Counts} → Refused e ≡ Done c → A
+pub not_done : {A : Type 0} {e : Refusal} {c : Counts} → Err e ≡ Ok c → A
 not_done p = let z : ◌≡◌ {A = ℕ} 0 1 = cc in absurd (omega arith)
 
-pub same-counts : {c d : Counts} → Done c ≡ Done d → c ≡ d
+pub same-counts : {c d : Counts} → ◌≡◌ {A = Answer} (Ok c) (Ok d) → c ≡ d
 same-counts p = cc
 
-pub given-done : {c : Counts} (ok : Bool) (e : Refusal) (rest : Answer) → given ok e rest ≡ Done c → (ok ≡ true) × (rest ≡ Done c)
+pub given-done : {c : Counts} (ok : Bool) (e : Refusal) (rest : Answer) → given ok e rest ≡ Ok c → (ok ≡ true) × (rest ≡ Ok c)
 given-done true e rest p = (refl, p)
 given-done false e rest p = not_done p
 
-pub done-limited : (c d : Counts) → limited c ≡ Done d → (c.vertices.0 ≤ 65536) × (c ≡ d)
+pub done-limited : (c d : Counts) → limited c ≡ Ok d → (c.vertices.0 ≤ 65536) × (c ≡ d)
 done-limited c d p =
-    let h = given-done (leb c.vertices.0 65536) Limit (Done c) p in
+    let h = given-done (leb c.vertices.0 65536) Limit (Ok c) p in
     (leb-true c.vertices.0 65536 h.0, same-counts h.1)
 
-pub limited-done : (c : Counts) → c.vertices.0 ≤ 65536 → limited c ≡ Done c
+pub limited-done : (c : Counts) → c.vertices.0 ≤ 65536 → limited c ≡ Ok c
 limited-done c h = rw (le-leb c.vertices.0 65536 h)
 
-pub limited-refused : (c : Counts) → 65536 < c.vertices.0 → limited c ≡ Refused Limit
+pub limited-refused : (c : Counts) → 65536 < c.vertices.0 → limited c ≡ Err Limit
 limited-refused c h = rw (lt-leb c.vertices.0 65536 h)
 
-pub named-done : (a : Answer) (c : Counts) (k n : ℕ) → named a k n ≡ Done c → (a ≡ Done c) × (k < n)
-named-done (Refused e) c k n p = not_done p
-named-done (Done d) c k n p =
-    let h = given-done (ltb k n) NoFace (Done d) p in
+pub named-done : (a : Answer) (c : Counts) (k n : ℕ) → named a k n ≡ Ok c → (a ≡ Ok c) × (k < n)
+named-done (Err e) c k n p = not_done p
+named-done (Ok d) c k n p =
+    let h = given-done (ltb k n) NoFace (Ok d) p in
     (h.1, ltb-true k n h.0)
 
 -- ---- an answer's number is at most a bound, test by test
@@ -131,7 +131,7 @@ given-most m true e rest h k = k
 given-most m false e rest h k = h
 
 pub limited-most : (c : Counts) → number_of (limited c) ≤ 4
-limited-most c = given-most 4 (leb c.vertices.0 65536) Limit (Done c) (lit≤ tt) (lit≤ tt)
+limited-most c = given-most 4 (leb c.vertices.0 65536) Limit (Ok c) (lit≤ tt) (lit≤ tt)
 
 -- every refusal's number is above 0 and has at most two digits
 room-coded : (b : Buffer) → (51 ≤ room_code b) × (room_code b < 100)
@@ -156,8 +156,8 @@ coded (Bytes n) = (lit≤ tt, lit< tt)
 
 -- L1: one below 51 is no refusal for room, and has no need
 pub without-need : (a : Answer) → number_of a < 51 → need_of a ≡ 0
-without-need (Done c) h = refl
-without-need (Refused e) h = go e h
+without-need (Ok c) h = refl
+without-need (Err e) h = go e h
   where
     go : (e : Refusal) → code e < 51 → need e ≡ 0
     go Shape h = refl
@@ -175,13 +175,13 @@ without-need (Refused e) h = go e h
 
 -- ---- L1: each of the four tests, passed or not
 module _ (b : Buffer) (c : Counts) (l : ℕ) (rest : Answer) where
-  held-done : {d : Counts} → held b c l rest ≡ Done d → (need_for b c ≤ l) × (rest ≡ Done d)
+  held-done : {d : Counts} → held b c l rest ≡ Ok d → (need_for b c ≤ l) × (rest ≡ Ok d)
   held-done p = let h = given-done (leb (need_for b c) l) (Room b (told b c)) rest p in (leb-true _ _ h.0, h.1)
 
   held-enough : need_for b c ≤ l → held b c l rest ≡ rest
   held-enough h = rw (le-leb (need_for b c) l h)
 
-  held-short : l < need_for b c → held b c l rest ≡ Refused (Room b (told b c))
+  held-short : l < need_for b c → held b c l rest ≡ Err (Room b (told b c))
   held-short h = rw (lt-leb (need_for b c) l h)
 
 -- within the limit a need is told as it is
@@ -195,27 +195,27 @@ told_is Uvs c h = capped_is 2 _ (lit≤ tt) h
 told_is Indices c h = refl
 
 module _ (c : Counts) (v n t i : ℕ) where
-  pub room-for-done : (d : Counts) → room_for c v n t i ≡ Done d → (c ≡ d) × Roomy c v n t i
+  pub room-for-done : (d : Counts) → room_for c v n t i ≡ Ok d → (c ≡ d) × Roomy c v n t i
   room-for-done d p =
       let h = held-done Vertices c v _ p in
       let k = held-done Normals c n _ h.1 in
       let l = held-done Uvs c t _ k.1 in
-      let m = held-done Indices c i (Done c) l.1 in
+      let m = held-done Indices c i (Ok c) l.1 in
       (same-counts m.1, record { vertices = h.0; normals = k.0; uvs = l.0; indices = m.0 })
 
-  pub room-enough : Roomy c v n t i → room_for c v n t i ≡ Done c
+  pub room-enough : Roomy c v n t i → room_for c v n t i ≡ Ok c
   room-enough r =
       held-enough Vertices c v _ r.vertices
       ∙ held-enough Normals c n _ r.normals
       ∙ held-enough Uvs c t _ r.uvs
-      ∙ held-enough Indices c i (Done c) r.indices
+      ∙ held-enough Indices c i (Ok c) r.indices
 
 -- ---- L1: the first short buffer is the refusal
 module _ (c : Counts) (l : Buffer → ℕ) where
   abbrev roomed-by : Answer
   roomed-by = room_for c (l Vertices) (l Normals) (l Uvs) (l Indices)
 
-  first-told : (b : Buffer) → FirstShort c l b → roomed-by ≡ Refused (Room b (told b c))
+  first-told : (b : Buffer) → FirstShort c l b → roomed-by ≡ Err (Room b (told b c))
   first-told Vertices s = held-short Vertices c _ _ s.short
   first-told Normals s = held-enough Vertices c _ _ (s.earlier Vertices (omega arith)) ∙ held-short Normals c _ _ s.short
   first-told Uvs s =
@@ -228,8 +228,8 @@ module _ (c : Counts) (l : Buffer → ℕ) where
       ∙ held-enough Uvs c _ _ (s.earlier Uvs (omega arith))
       ∙ held-short Indices c _ _ s.short
 
-  pub first_short : (b : Buffer) → FirstShort c l b → c.vertices.0 ≤ 65536 → roomed-by ≡ Refused (Room b (need_for b c))
-  first_short b s h = first-told b s ∙ ap (λ (n : ℕ). Refused (Room b n)) (told_is b c h)
+  pub first_short : (b : Buffer) → FirstShort c l b → c.vertices.0 ≤ 65536 → roomed-by ≡ Err (Room b (need_for b c))
+  first_short b s h = first-told b s ∙ ap (λ (n : ℕ). Err (Room b n)) (told_is b c h)
 
 -- each buffer has its own place in the order
 abbrev buffer_at : ℕ → Buffer
@@ -326,16 +326,16 @@ short-first c v n t i s =
     (λ f. f)
     (room-or-first c (lengths v n t i))
 
-pub roomed-done : (a : Answer) (c : Counts) (v n t i : ℕ) → roomed a v n t i ≡ Done c → (a ≡ Done c) × Roomy c v n t i
-roomed-done (Refused e) c v n t i p = not_done p
-roomed-done (Done d) c v n t i p =
+pub roomed-done : (a : Answer) (c : Counts) (v n t i : ℕ) → roomed a v n t i ≡ Ok c → (a ≡ Ok c) × Roomy c v n t i
+roomed-done (Err e) c v n t i p = not_done p
+roomed-done (Ok d) c v n t i p =
     let h = room-for-done d v n t i c p in
-    (ap Done h.0, rw h.0 at h.1)
+    (ap Ok h.0, rw h.0 at h.1)
 
 -- ---- what is lent, after a call that is done and after one that is refused
 module _ {A : Type 0} (a : Answer) (old new : A) where
-  pub after-done : {c : Counts} → a ≡ Done c → new ≡ after a old new
+  pub after-done : {c : Counts} → a ≡ Ok c → new ≡ after a old new
   after-done e = rw e
 
-  pub after-refused : {e : Refusal} → a ≡ Refused e → old ≡ after a old new
+  pub after-refused : {e : Refusal} → a ≡ Err e → old ≡ after a old new
   after-refused e = rw e

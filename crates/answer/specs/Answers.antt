@@ -1,5 +1,5 @@
 -- Answers and the order of refusals; S4, N4 to R18, L1a to L1e, L2b and L2d are rows of docs/TRACE.md. Definitions only.
-use Rattle.std.specs.Prelude.{ℕ, ◌*◌, ◌<◌, ◌≤◌, ◌≡◌, ◌⊎◌, Bool, cond, leb, ltb}
+use Rattle.std.specs.Prelude.{ℕ, ◌*◌, ◌<◌, ◌≤◌, ◌≡◌, ◌⊎◌, Bool, cond, leb, ltb, Result, Ok, Err}
 use Rattle.face.specs.declared.triangle.Counts.{Counts}
 use Rattle.face.specs.declared.vec.Vec2.{Vec2}
 use Rattle.face.specs.declared.vec.Vec3.{Vec3}
@@ -9,8 +9,6 @@ use Rattle.answer.specs.declared.answer.Buffer.{Buffer}
 use Rattle.answer.specs.declared.answer.Buffer.TheVariants.{Vertices, Normals, Uvs, Indices}
 use Rattle.answer.specs.declared.answer.Refusal.{Refusal}
 use Rattle.answer.specs.declared.answer.Refusal.TheVariants.{Shape, Range, Neighbour, Limit, Room, NoFace, Index, Empty, Sheet, Triangles, File, Bytes}
-use Rattle.answer.specs.declared.answer.Answer.{Answer}
-use Rattle.answer.specs.declared.answer.Answer.TheVariants.{Done, Refused}
 
 -- L1: a short buffer's number, which is its place in the order
 abbrev pub room_code : Buffer → ℕ
@@ -49,23 +47,27 @@ need Triangles = 0
 need File = 0
 need (Bytes n) = n
 
+-- an answer: the counts of a mesh, or why there is none
+abbrev pub Answer : Type 0
+Answer = Result Counts Refusal
+
 -- R0, R10: what an answer gives; a refusal's counts are 0 and its other values +0
 abbrev pub number_of : Answer → ℕ
-number_of (Done c) = 0
-number_of (Refused e) = code e
+number_of (Ok c) = 0
+number_of (Err e) = code e
 
 abbrev pub counts_of : Answer → Counts
-counts_of (Done c) = c
-counts_of (Refused e) = counts 0 0
+counts_of (Ok c) = c
+counts_of (Err e) = counts 0 0
 
 -- L1: 0 where done
 abbrev pub need_of : Answer → ℕ
-need_of (Done c) = 0
-need_of (Refused e) = need e
+need_of (Ok c) = 0
+need_of (Err e) = need e
 
 abbrev pub value_of : {A : Type 0} → A → Answer → A → A
-value_of z (Done c) x = x
-value_of z (Refused e) x = z
+value_of z (Ok c) x = x
+value_of z (Err e) x = z
 
 abbrev pub value_of2 : Answer → Vec2 → Vec2
 value_of2 = value_of zero2
@@ -75,21 +77,21 @@ value_of3 = value_of zero3
 
 -- R10: what is lent, after a call: as it was where the call is refused
 abbrev pub after : {A : Type 0} → Answer → A → A → A
-after (Done c) old new = new
-after (Refused e) old new = old
+after (Ok c) old new = new
+after (Err e) old new = old
 
 -- a test before an answer
 abbrev pub given : Bool → Refusal → Answer → Answer
-given ok e rest = cond ok rest (Refused e)
+given ok e rest = cond ok rest (Err e)
 
 -- R4, N4: the vertices can be numbered
 abbrev pub limited : Counts → Answer
-limited c = given (leb c.vertices.0 65536) Limit (Done c)
+limited c = given (leb c.vertices.0 65536) Limit (Ok c)
 
 -- R6, after what stands before it
 abbrev pub named : Answer → ℕ → ℕ → Answer
-named (Refused e) k n = Refused e
-named (Done c) k n = given (ltb k n) NoFace (Done c)
+named (Err e) k n = Err e
+named (Ok c) k n = given (ltb k n) NoFace (Ok c)
 
 -- S4, L1: how many numbers the counts need in a buffer
 abbrev pub need_for : Buffer → Counts → ℕ
@@ -115,11 +117,11 @@ held b c l rest = given (leb (need_for b c) l) (Room b (told b c)) rest
 
 -- L1: the first short buffer, in this order
 abbrev pub room_for : Counts → ℕ → ℕ → ℕ → ℕ → Answer
-room_for c v n t i = held Vertices c v (held Normals c n (held Uvs c t (held Indices c i (Done c))))
+room_for c v n t i = held Vertices c v (held Normals c n (held Uvs c t (held Indices c i (Ok c))))
 
 abbrev pub roomed : Answer → ℕ → ℕ → ℕ → ℕ → Answer
-roomed (Refused e) v n t i = Refused e
-roomed (Done c) v n t i = room_for c v n t i
+roomed (Err e) v n t i = Err e
+roomed (Ok c) v n t i = room_for c v n t i
 
 -- R5: four buffers of these lengths hold the counts
 pub record Roomy (c : Counts) (v n t i : ℕ) : Type 0 where
@@ -153,8 +155,8 @@ pub record Lengthened (b : Buffer) (n : ℕ) (before after : Buffer → ℕ) : T
 pub record LaterShort (c : Counts) (a : Answer) (b : Buffer) : Type 0 where
   pub buffer : Buffer
   pub later : room_code b < room_code buffer
-  pub refused : a ≡ Refused (Room buffer (need_for buffer c))
+  pub refused : a ≡ Err (Room buffer (need_for buffer c))
 
 -- L1: past this buffer: done, or refused for a later one
 abbrev pub Past : Counts → Answer → Buffer → Type 0
-Past c a b = (a ≡ Done c) ⊎ LaterShort c a b
+Past c a b = (a ≡ Ok c) ⊎ LaterShort c a b

@@ -32,11 +32,8 @@ pub enum Refusal {
     Bytes(usize),
 }
 
-#[derive(Clone, Copy)]
-pub enum Answer {
-    Done(Counts),
-    Refused(Refusal),
-}
+// The counts of a mesh, or why there is none.
+pub type Answer = Result<Counts, Refusal>;
 
 fn room_code(buffer: Buffer) -> u32
     ensures { result ≡ room_code buffer }
@@ -72,18 +69,9 @@ fn refusal_need(why: Refusal) -> usize
     ensures { result ≡ need why }
 {
     match why {
-        Refusal::Shape => 0,
-        Refusal::Range => 0,
-        Refusal::Neighbour => 0,
-        Refusal::Limit => 0,
         Refusal::Room(_, numbers) => numbers,
-        Refusal::NoFace => 0,
-        Refusal::Index => 0,
-        Refusal::Empty => 0,
-        Refusal::Sheet => 0,
-        Refusal::Triangles => 0,
-        Refusal::File => 0,
         Refusal::Bytes(bytes) => bytes,
+        _ => 0,
     }
 }
 
@@ -91,8 +79,8 @@ pub fn number_of(answer: Answer) -> u32
     ensures { result ≡ number_of answer }
 {
     match answer {
-        Answer::Done(_) => 0,
-        Answer::Refused(why) => refusal_code(why),
+        Ok(_) => 0,
+        Err(why) => refusal_code(why),
     }
 }
 
@@ -101,8 +89,8 @@ pub fn counts_of(answer: Answer) -> Counts
     ensures { result ≡ counts_of answer }
 {
     match answer {
-        Answer::Done(counts) => counts,
-        Answer::Refused(_) => Counts {
+        Ok(counts) => counts,
+        Err(_) => Counts {
             vertices: VertexNumber(0),
             indices: IndexPlace(0),
         },
@@ -114,8 +102,8 @@ pub fn need_of(answer: Answer) -> usize
     ensures { result ≡ need_of answer }
 {
     match answer {
-        Answer::Done(_) => 0,
-        Answer::Refused(why) => refusal_need(why),
+        Ok(_) => 0,
+        Err(why) => refusal_need(why),
     }
 }
 
@@ -124,34 +112,27 @@ pub fn limit(counts: Counts) -> Answer
     ensures { result ≡ limited counts }
 {
     if counts.vertices.0 <= 65536 {
-        return Answer::Done(counts);
+        return Ok(counts);
     }
-    Answer::Refused(Refusal::Limit)
+    Err(Refusal::Limit)
 }
 
 // An answer, refused if the face is none of that many.
 pub fn name(answer: Answer, face: usize, faces: usize) -> Answer
     ensures { result ≡ named answer face faces }
 {
-    match answer {
-        Answer::Refused(why) => Answer::Refused(why),
-        Answer::Done(counts) => {
-            if face < faces {
-                return Answer::Done(counts);
-            }
-            Answer::Refused(Refusal::NoFace)
-        }
+    let counts = answer?;
+    if face < faces {
+        return Ok(counts);
     }
+    Err(Refusal::NoFace)
 }
 
 // An answer, refused if one of four buffers of these lengths is too short for its counts.
 pub fn room(answer: Answer, vertices: usize, normals: usize, uvs: usize, indices: usize) -> Answer
     ensures { result ≡ roomed answer vertices normals uvs indices }
 {
-    match answer {
-        Answer::Refused(why) => Answer::Refused(why),
-        Answer::Done(counts) => room_for(counts, vertices, normals, uvs, indices),
-    }
+    room_for(answer?, vertices, normals, uvs, indices)
 }
 
 // So many numbers for each of so many vertices. The greatest number of 64 bits stands for what is above it.
@@ -171,16 +152,16 @@ fn room_for(counts: Counts, vertices: usize, normals: usize, uvs: usize, indices
 {
     let v = counts.vertices.0;
     if v > vertices / 3 {
-        return Answer::Refused(Refusal::Room(Buffer::Vertices, need_for(3, v)));
+        return Err(Refusal::Room(Buffer::Vertices, need_for(3, v)));
     }
     if v > normals / 3 {
-        return Answer::Refused(Refusal::Room(Buffer::Normals, need_for(3, v)));
+        return Err(Refusal::Room(Buffer::Normals, need_for(3, v)));
     }
     if v > uvs / 2 {
-        return Answer::Refused(Refusal::Room(Buffer::Uvs, need_for(2, v)));
+        return Err(Refusal::Room(Buffer::Uvs, need_for(2, v)));
     }
     if counts.indices.0 > indices {
-        return Answer::Refused(Refusal::Room(Buffer::Indices, counts.indices.0));
+        return Err(Refusal::Room(Buffer::Indices, counts.indices.0));
     }
-    Answer::Done(counts)
+    Ok(counts)
 }

@@ -2,8 +2,8 @@
 -- else. Definitions only.
 use Rattle.std.specs.Prelude.{ℕ, cond}
 use Rattle.answer.specs.declared.answer.Refusal.TheVariants.{Shape}
-use Rattle.answer.specs.declared.answer.Answer.{Answer}
-use Rattle.answer.specs.declared.answer.Answer.TheVariants.{Refused}
+use Rattle.answer.specs.Answers.{Answer}
+use Rattle.std.specs.Prelude.{Err}
 use Rattle.answer.specs.Answers.{given}
 use Rattle.buffers.specs.Mesh.{none}
 use Rattle.buffers.specs.Laying.{Buffers}
@@ -42,10 +42,10 @@ abbrev pub map_faced : CHeightMap → Lists → ℕ → Buffers → Buffers
 map_faced job ls k B = cond (is_fringe job.fringe) (faced (height_map_of job) ls k B) B
 
 abbrev pub map_faces_told : CHeightMap → Lists → Faces
-map_faces_told job ls = cond (is_fringe job.fringe) (faces_told (height_map_of job) ls) (faces_by (Refused Shape) 0)
+map_faces_told job ls = cond (is_fringe job.fringe) (faces_told (height_map_of job) ls) (faces_by (Err Shape) 0)
 
 abbrev pub map_window_told : CHeightMap → Lists → ℕ → Window
-map_window_told job ls k = cond (is_fringe job.fringe) (window_told (height_map_of job) ls k) (window_by (Refused Shape) none none)
+map_window_told job ls k = cond (is_fringe job.fringe) (window_told (height_map_of job) ls k) (window_by (Err Shape) none none)
 
 -- L3c
 abbrev pub map_why_told : CHeightMap → Lists → ℕ → ℕ → WhyAnswer

@@ -2,8 +2,8 @@
 use Rattle.face.specs.declared.vec.Vec2.{Vec2}
 use Rattle.face.specs.declared.vec.Vec3.{Vec3}
 use Rattle.face.specs.Vec.{f0}
-use Rattle.answer.specs.declared.answer.Answer.{Answer}
-use Rattle.answer.specs.declared.answer.Answer.TheVariants.{Done, Refused}
+use Rattle.answer.specs.Answers.{Answer}
+use Rattle.std.specs.Prelude.{Ok, Err}
 use Rattle.answer.specs.Answers.{number_of, counts_of, need_of}
 use Rattle.mesh.specs.declared.stored.CentroidAnswer.{CentroidAnswer}
 use Rattle.mesh.specs.declared.stored.UvCentroidAnswer.{UvCentroidAnswer}
@@ -64,9 +64,9 @@ file_to_c t = record { answer = answer_to_c t.answer; bytes = t.bytes }
 
 -- L3d: a reason by its number, its height and its face, and a face by its kind, its side and its cell; all 0 where refused
 abbrev pub why_to_c : WhyAnswer → CWhy
-why_to_c (why.Refused e) = record { answer = answer_to_c (Refused e); reason = 0; height = f0; face = 0 }
-why_to_c (why.Because c r) = record { answer = answer_to_c (Done c); reason = reason_code r; height = reason_height r; face = reason_face r }
+why_to_c (why.Refused e) = record { answer = answer_to_c (Err e); reason = 0; height = f0; face = 0 }
+why_to_c (why.Because c r) = record { answer = answer_to_c (Ok c); reason = reason_code r; height = reason_height r; face = reason_face r }
 
 abbrev pub which_to_c : WhichAnswer → CWhich
-which_to_c (which.Refused e) = record { answer = answer_to_c (Refused e); kind = 0; side = 0; cell = 0 }
-which_to_c (which.Named c n) = record { answer = answer_to_c (Done c); kind = kind_code n; side = side_told n; cell = cell_of n }
+which_to_c (which.Refused e) = record { answer = answer_to_c (Err e); kind = 0; side = 0; cell = 0 }
+which_to_c (which.Named c n) = record { answer = answer_to_c (Ok c); kind = kind_code n; side = side_told n; cell = cell_of n }

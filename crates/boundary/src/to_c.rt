@@ -170,13 +170,13 @@ pub fn why_to_c(told: WhyAnswer) -> CWhy
 {
     match told {
         WhyAnswer::Refused(why) => CWhy {
-            answer: answer_to_c(Answer::Refused(why)),
+            answer: answer_to_c(Err(why)),
             reason: 0,
             height: 0.0,
             face: 0,
         },
         WhyAnswer::Because(counts, reason) => CWhy {
-            answer: answer_to_c(Answer::Done(counts)),
+            answer: answer_to_c(Ok(counts)),
             reason: heightmap_why::reason_code(reason),
             height: heightmap_why::reason_height(reason),
             face: heightmap_why::reason_face(reason),
@@ -189,13 +189,13 @@ pub fn which_to_c(told: WhichAnswer) -> CWhich
 {
     match told {
         WhichAnswer::Refused(why) => CWhich {
-            answer: answer_to_c(Answer::Refused(why)),
+            answer: answer_to_c(Err(why)),
             kind: 0,
             side: 0,
             cell: 0,
         },
         WhichAnswer::Named(counts, name) => CWhich {
-            answer: answer_to_c(Answer::Done(counts)),
+            answer: answer_to_c(Ok(counts)),
             kind: heightmap_why::kind_code(name),
             side: heightmap_why::side_of(name),
             cell: heightmap_why::cell_of(name),

@@ -2,8 +2,8 @@
 use Rattle.std.specs.Prelude.{ℕ, ◌*◌, ◌≡◌, Bool, ◌&&◌, cond, List, ◌∷◌, length, get_or, replicate, leb, Float}
 use Rattle.std.specs.Float.{nan}
 use Rattle.face.specs.Lists.{each, chain}
-use Rattle.answer.specs.declared.answer.Answer.{Answer}
-use Rattle.answer.specs.declared.answer.Answer.TheVariants.{Done, Refused}
+use Rattle.answer.specs.Answers.{Answer}
+use Rattle.std.specs.Prelude.{Ok, Err}
 use Rattle.answer.specs.declared.answer.Refusal.TheVariants.{Shape}
 use Rattle.answer.specs.Checks.{cell_count}
 use Rattle.buffers.specs.Mesh.{none}
@@ -44,7 +44,7 @@ loadable n l m = cell_count n && (leb (27 * n) l && leb (6 * n) m)
 
 -- done, a load makes no mesh: both counts are 0
 unfoldable pub load_answer : ℕ → ℕ → ℕ → Answer
-load_answer n l m = cond (loadable n l m) (Done none) (Refused Shape)
+load_answer n l m = cond (loadable n l m) (Ok none) (Err Shape)
 
 -- what it leaves: the cells from the start of each list, and all past them as it was; refused, each list as it was
 unfoldable pub numbers_loaded : List Cell → List Float → List ℕ → List Float

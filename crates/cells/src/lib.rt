@@ -108,12 +108,12 @@ fn load_answer(records: usize, cells: usize, neighbours: usize) -> Answer
     ensures { result ≡ load_answer records cells neighbours }
 {
     if is_loadable(records, cells, neighbours) {
-        return Answer::Done(Counts {
+        return Ok(Counts {
             vertices: VertexNumber(0),
             indices: IndexPlace(0),
         });
     }
-    Answer::Refused(Refusal::Shape)
+    Err(Refusal::Shape)
 }
 
 // The cells' numbers and neighbours from the start of each list on, or nothing.

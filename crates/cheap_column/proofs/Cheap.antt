@@ -17,8 +17,8 @@ use Rattle.face.specs.Vec.{f0, minus3, upright}
 use Rattle.face.specs.Texture.{wrapped}
 use Rattle.face.specs.Triangles.{no_triangle, counts}
 use Rattle.answer.specs.declared.answer.Refusal.TheVariants.{Shape, Range}
-use Rattle.answer.specs.declared.answer.Answer.{Answer}
-use Rattle.answer.specs.declared.answer.Answer.TheVariants.{Done, Refused}
+use Rattle.answer.specs.Answers.{Answer}
+use Rattle.std.specs.Prelude.{Ok, Err}
 use Rattle.answer.specs.Answers.{Roomy, given, limited, named, after}
 use Rattle.answer.specs.Checks.{exactly}
 use Rattle.answer.proofs.Laws.{every-at, given-done, done-limited, named-done, roomed-done}
@@ -37,7 +37,7 @@ module _ (job : CheapColumn) (l : List Float) where
   pub column-counts : measure (cheap_faces job l) ≡ counts 12 48
   column-counts = refl
 
-  pub misshapen : (length l ≡ 12 → ⊥) → Refused Shape ≡ planned job l
+  pub misshapen : (length l ≡ 12 → ⊥) → Err Shape ≡ planned job l
   misshapen h = sym (ap (λ (x : Bool). given x Shape (given (range_of job l) Range (limited (measure (cheap_faces job l))))) (ne_eqb (length l) 12 h))
 
   pub range-decides : length l ≡ 12 → (y : Bool) → range_of job l ≡ y → given y Range (limited (counts 12 48)) ≡ planned job l
@@ -88,13 +88,13 @@ module _ (job : CheapColumn) (cs : List Vec2) (B : Buffers) where
 
 -- ---- a done answer has twelve numbers, and room for the whole
 module _ (job : CheapColumn) (l : List Float) (B : Buffers) where
-  planned-done : (d : Counts) → planned job l ≡ Done d → (length l ≡ 12) × (counts 12 48 ≡ d)
+  planned-done : (d : Counts) → planned job l ≡ Ok d → (length l ≡ 12) × (counts 12 48 ≡ d)
   planned-done d e =
       let p = given-done (eqb (length l) 12) Shape _ e in
       let q = given-done (range_of job l) Range _ p.1 in
       (eqb-true (length l) 12 p.0, (done-limited (measure (cheap_faces job l)) d q.1).1)
 
-  ready : (d : Counts) → planned job l ≡ Done d → Roomy d (length B.vertices) (length B.normals) (length B.uvs) (length B.indices) → (length l ≡ 12) × Roomed B
+  ready : (d : Counts) → planned job l ≡ Ok d → Roomy d (length B.vertices) (length B.normals) (length B.uvs) (length B.indices) → (length l ≡ 12) × Roomed B
   ready d e r =
       let p = planned-done d e in
       let s = rw (← p.1) at r in
@@ -118,14 +118,14 @@ module _ (job : CheapColumn) (l : List Float) (B : Buffers) where
   first-laid = refl
 
   pub face-laid : (k : ℕ) (a : Answer) → a ≡ face_answer job l k B → after a B (lay (cheap_mesh job l) none B) ≡ after a B (lay_one (cheap_faces job l) k none B)
-  face-laid k (Refused e) h = refl
-  face-laid k (Done d) h =
+  face-laid k (Err e) h = refl
+  face-laid k (Ok d) h =
       let r = roomed-done (named (planned job l) k 1) d _ _ _ _ (sym h) in
       let z : k ≡ 0 = omega (arith, (named-done (planned job l) d k 1 r.0).1) in
       sym first-laid ∙ ap (λ (j : ℕ). lay_one (cheap_faces job l) j none B) (sym z)
 
 -- a column's own tests change no answer
-pub passes : (job : CheapColumn) (l : List Float) (a : Answer) (d : Counts) → checked job l a ≡ Done d → a ≡ Done d
+pub passes : (job : CheapColumn) (l : List Float) (a : Answer) (d : Counts) → checked job l a ≡ Ok d → a ≡ Ok d
 passes job l a d e = (given-done (range_of job l) Range a (given-done (exactly (length l) 6 2) Shape (given (range_of job l) Range a) e).1).1
 
 -- ---- its triangles name its own twelve vertices, by a test of the whole table

@@ -9,8 +9,8 @@ use Rattle.face.specs.Vec.{f0, minus3, upright}
 use Rattle.face.specs.Texture.{wrapped}
 use Rattle.face.specs.Triangles.{tri}
 use Rattle.answer.specs.declared.answer.Refusal.TheVariants.{Shape, Range}
-use Rattle.answer.specs.declared.answer.Answer.{Answer}
-use Rattle.answer.specs.declared.answer.Answer.TheVariants.{Done}
+use Rattle.answer.specs.Answers.{Answer}
+use Rattle.std.specs.Prelude.{Ok}
 use Rattle.answer.specs.Answers.{given, after}
 use Rattle.answer.specs.Checks.{in_range, in_range2, all_in_range, exactly}
 use Rattle.buffers.specs.Mesh.{Vertex, Mesh, none}
@@ -81,7 +81,7 @@ abbrev pub Roomed : Buffers → Type 0
 Roomed B = (36 ≤ length B.vertices) × (36 ≤ length B.normals) × (24 ≤ length B.uvs) × (48 ≤ length B.indices)
 
 abbrev pub Ready : Answer → List Float → Buffers → Type 0
-Ready a l B = (d : Counts) → a ≡ Done d → (length l ≡ 12) × Roomed B
+Ready a l B = (d : Counts) → a ≡ Ok d → (length l ≡ 12) × Roomed B
 
 -- its one face laid where an answer is done
 abbrev pub cheap_if_done : Answer → CheapColumn → List Float → Buffers → Buffers

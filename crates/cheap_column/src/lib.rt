@@ -151,8 +151,8 @@ fn put_if_done(
     ensures { Become (cheap_if_done found job corners.now) vertices normals uvs indices }
 {
     match found {
-        Answer::Refused(_) => {}
-        Answer::Done(_) => {
+        Err(_) => {}
+        Ok(_) => {
             let cs = corners_of(corners);
             put(job, cs, vertices, normals, uvs, indices);
         }
@@ -164,7 +164,7 @@ pub fn plan(job: CheapColumn, corners: &[f32]) -> Answer
     ensures { result ≡ planned job corners.now }
 {
     if corners.len() != 12 {
-        return Answer::Refused(Refusal::Shape);
+        return Err(Refusal::Shape);
     }
     if is_in_range(job, corners) {
         return answer::answer::limit(Counts {
@@ -172,7 +172,7 @@ pub fn plan(job: CheapColumn, corners: &[f32]) -> Answer
             indices: IndexPlace(48),
         });
     }
-    Answer::Refused(Refusal::Range)
+    Err(Refusal::Range)
 }
 
 // How many faces the job has, or why it is refused.

@@ -9,7 +9,7 @@ use Rattle.face.specs.Face.{altered_quad}
 use Rattle.face.specs.Inset.{inset_quad_of}
 use Rattle.face.specs.Triangles.{counts, inset_counts, quad_triangles, hexagon_triangles}
 use Rattle.answer.specs.declared.answer.Refusal.TheVariants.{Shape, Range}
-use Rattle.answer.specs.declared.answer.Answer.TheVariants.{Refused}
+use Rattle.std.specs.Prelude.{Err}
 use Rattle.answer.specs.Answers.{given, limited}
 use Rattle.placement.specs.declared.options.Choice.{Choice}
 use Rattle.placement.specs.declared.options.Choice.TheVariants as option
@@ -124,7 +124,7 @@ cap-most ns ms (option.With k) = let q = hexagon-small (option_at ns ms k).inset
 
 -- ---- the plan, as the code tests it
 module _ (job : Column) (ls : Lists) where
-  pub misshapen : shape_of job ls ≡ false → Refused Shape ≡ planned job ls
+  pub misshapen : shape_of job ls ≡ false → Err Shape ≡ planned job ls
   misshapen e = sym (ap (λ (x : Bool). given x Shape (given (range_of job ls) Range (limited (measure (column_faces job ls))))) e)
 
   pub range-decides : shape_of job ls ≡ true → (y : Bool) → range_of job ls ≡ y → given y Range (limited (column_counts job ls.numbers ls.marks)) ≡ planned job ls

@@ -2,8 +2,8 @@
 use Rattle.std.proofs.Common.{◌≡◌, ℕ, length, sym, ap, ◌∙◌}
 use lib.ListN.{length-map}
 use Rattle.face.specs.declared.triangle.Counts.{Counts}
-use Rattle.answer.specs.declared.answer.Answer.{Answer}
-use Rattle.answer.specs.declared.answer.Answer.TheVariants.{Done}
+use Rattle.answer.specs.Answers.{Answer}
+use Rattle.std.specs.Prelude.{Ok}
 use Rattle.answer.specs.Answers.{named}
 use Rattle.answer.proofs.Laws.{named-done}
 use Rattle.buffers.specs.Mesh.{size_of, start_of}
@@ -34,7 +34,7 @@ module _ (job : Column) (ls : Lists) where
       window_same a _ (start_of (column_faces job ls) k) _ (size_of (face_at (column_faces job ls) k)) here
       ∙ ap (λ (x : Answer). window_by x (start_of (column_faces job ls) k) (size_of (face_at (column_faces job ls) k))) (e ∙ ap (named (planned job ls) k) face-total)
     where
-      here : (c : Counts) → a ≡ Done c
+      here : (c : Counts) → a ≡ Ok c
           → (start_by job ls.numbers ls.marks (name_at job k) ≡ start_of (column_faces job ls) k)
           × (size_by job ls.numbers ls.marks (name_at job k) ≡ size_of (face_at (column_faces job ls) k))
       here c d =

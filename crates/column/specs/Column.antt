@@ -8,7 +8,7 @@ use Rattle.face.specs.Lists.{each, chain}
 use Rattle.face.specs.Vec.{v3, f0, plus, times, over, plus3, zero3}
 use Rattle.face.specs.Face.{quad_of, altered_quad}
 use Rattle.answer.specs.declared.answer.Refusal.TheVariants.{Shape, Range}
-use Rattle.answer.specs.declared.answer.Answer.{Answer}
+use Rattle.answer.specs.Answers.{Answer}
 use Rattle.answer.specs.Answers.{given}
 use Rattle.answer.specs.Checks.{every, in_range, in_range2, all_in_range, exactly}
 use Rattle.placement.specs.declared.options.Choice.{Choice}

@@ -245,7 +245,7 @@ pub fn plan(job: Column, pairs: &[f32], corners: &[f32], numbers: &[f32], marks:
         if is_in_range(job, pairs, corners, numbers) {
             return answer::answer::limit(column_counts(job, numbers, marks));
         }
-        return Answer::Refused(Refusal::Range);
+        return Err(Refusal::Range);
     }
-    Answer::Refused(Refusal::Shape)
+    Err(Refusal::Shape)
 }

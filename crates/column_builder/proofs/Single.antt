@@ -5,7 +5,7 @@ use Prim.Native.Nat.{ℕ, ◌<◌}
 use native.Mathlib.Omega.{arith}
 use lib.ListN.{length}
 use Rattle.face.specs.declared.triangle.Counts.{Counts}
-use Rattle.answer.specs.declared.answer.Answer.TheVariants.{Done}
+use Rattle.std.specs.Prelude.{Ok}
 use Rattle.buffers.specs.Mesh.{none, measure}
 use Rattle.buffers.specs.Laying.{Buffers, fits, lay_one, laid_if_fits}
 use Rattle.buffers.proofs.Named as named
@@ -20,7 +20,7 @@ use Rattle.column_builder.specs.Calls.{face_answer}
 use Rattle.column_builder.proofs.Whole.{passes}
 
 module _ (job : Column) (ls : Lists) where
-  pub face-ready : (k : ℕ) (B : Buffers) (d : Counts) → face_answer job ls k B ≡ Done d → (fits none (measure (column_faces job ls)) B ≡ true) × (k < length (column_names job))
+  pub face-ready : (k : ℕ) (B : Buffers) (d : Counts) → face_answer job ls k B ≡ Ok d → (fits none (measure (column_faces job ls)) B ≡ true) × (k < length (column_names job))
   face-ready k B d e = let r = face-room (checked job ls) (column_faces job ls) (passes job ls) k B d e in (r.0, omega (arith, r.1, face-total job ls))
 
   pub stands-laid : (k : ℕ) (n : Name) (B : Buffers) → Stands job k n → fits none (measure (column_faces job ls)) B ≡ true

@@ -6,8 +6,8 @@ use lib.ListN.{length}
 use Rattle.face.specs.declared.triangle.Counts.{Counts}
 use Rattle.face.specs.Face.{altered_quad}
 use Rattle.answer.specs.declared.answer.Refusal.TheVariants.{Shape, Range}
-use Rattle.answer.specs.declared.answer.Answer.{Answer}
-use Rattle.answer.specs.declared.answer.Answer.TheVariants.{Done}
+use Rattle.answer.specs.Answers.{Answer}
+use Rattle.std.specs.Prelude.{Ok}
 use Rattle.answer.specs.Answers.{given}
 use Rattle.answer.proofs.Laws.{given-done}
 use Rattle.placement.specs.Options.{option_for}
@@ -27,10 +27,10 @@ use Rattle.column_builder.specs.Calls.{whole_answer}
 
 -- ---- what a done answer says: there is room for every face
 module _ (job : Column) (ls : Lists) where
-  pub passes : (a : Answer) (d : Counts) → checked job ls a ≡ Done d → a ≡ Done d
+  pub passes : (a : Answer) (d : Counts) → checked job ls a ≡ Ok d → a ≡ Ok d
   passes a d e = (given-done (range_of job ls) Range a (given-done (shape_of job ls) Shape (given (range_of job ls) Range a) e).1).1
 
-  pub whole_ready : (B : Buffers) (d : Counts) → whole_answer job ls B ≡ Done d → fits none (measure (column_faces job ls)) B ≡ true
+  pub whole_ready : (B : Buffers) (d : Counts) → whole_answer job ls B ≡ Ok d → fits none (measure (column_faces job ls)) B ≡ true
   whole_ready = whole_room (checked job ls) (column_faces job ls) passes
 
 -- ---- X8: every face's triangles name its own vertices

@@ -1,7 +1,7 @@
 -- What a whole build and a face call of a column answer and leave; R11 to R17 are rows of docs/TRACE.md. Definitions only.
 use Rattle.std.specs.Prelude.{ℕ}
 use Rattle.face.specs.declared.triangle.Counts.{Counts}
-use Rattle.answer.specs.declared.answer.Answer.{Answer}
+use Rattle.answer.specs.Answers.{Answer}
 use Rattle.placement.specs.declared.options.Choice.{Choice}
 use Rattle.placement.specs.declared.placement.Stand.{Stand}
 use Rattle.buffers.specs.Mesh.{none}

@@ -40,12 +40,12 @@ pub fn build(
         indices.len(),
     );
     match answer {
-        Answer::Refused(why) => Answer::Refused(why),
-        Answer::Done(counts) => {
+        Err(why) => Err(why),
+        Ok(counts) => {
             crate::laying::put_all(
                 job, pairs, corners, numbers, marks, vertices, normals, uvs, indices,
             );
-            Answer::Done(counts)
+            Ok(counts)
         }
     }
 }
@@ -78,14 +78,14 @@ pub fn face(
         indices.len(),
     );
     match roomed {
-        Answer::Refused(why) => Answer::Refused(why),
-        Answer::Done(whole) => {
+        Err(why) => Err(why),
+        Ok(whole) => {
             let name = column::names::name_of(job, number);
             let at = column::names::start_of(job, name, numbers, marks);
             crate::laying::put_named(
                 job, name, at, pairs, corners, numbers, marks, vertices, normals, uvs, indices,
             );
-            Answer::Done(whole)
+            Ok(whole)
         }
     }
 }

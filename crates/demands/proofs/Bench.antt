@@ -15,8 +15,8 @@ use Rattle.buffers.specs.Faces as Faces
 use Rattle.buffers.proofs.Faces.{quad-size, hexagon-size}
 use Rattle.face.proofs.Bench as face
 use Rattle.answer.specs.declared.answer.Refusal.TheVariants.{NoFace}
-use Rattle.answer.specs.declared.answer.Answer.{Answer}
-use Rattle.answer.specs.declared.answer.Answer.TheVariants.{Done, Refused}
+use Rattle.answer.specs.Answers.{Answer}
+use Rattle.std.specs.Prelude.{Ok, Err}
 use Rattle.answer.specs.Answers.{limited, number_of, counts_of}
 use Rattle.placement.specs.declared.options.Choice.TheVariants as option
 use Rattle.column.specs.declared.Subdivisions.TheVariants as subdivisions
@@ -130,9 +130,9 @@ abbrev small : Job
 small = OfColumn (column three plain option.Absent (subdivisions.Of 2)) zero_lists
 
 pub column-windows :
-    (faces_told small ≡ record { answer = Done (counts 30 48); faces = 7 })
-    × (window_told small 5 ≡ record { answer = Done (counts 30 48); start = counts 20 30; size = counts 4 6 })
-    × (window_told small 6 ≡ record { answer = Done (counts 30 48); start = counts 24 36; size = counts 6 12 })
-    × (window_told small 7 ≡ record { answer = Refused NoFace; start = none; size = none })
+    (faces_told small ≡ record { answer = Ok (counts 30 48); faces = 7 })
+    × (window_told small 5 ≡ record { answer = Ok (counts 30 48); start = counts 20 30; size = counts 4 6 })
+    × (window_told small 6 ≡ record { answer = Ok (counts 30 48); start = counts 24 36; size = counts 6 12 })
+    × (window_told small 7 ≡ record { answer = Err NoFace; start = none; size = none })
 unfolding of_bits neg le column_names mesh_of Faces.quad_mesh Faces.hexagon_mesh
 column-windows = (refl, refl, refl, refl)

@@ -13,8 +13,8 @@ use Rattle.face.specs.declared.triangle.Counts.{Counts}
 use Rattle.answer.specs.declared.answer.Refusal.{Refusal}
 use Rattle.answer.specs.declared.answer.Refusal.TheVariants.{Shape, Range, Neighbour, Empty, Room, NoFace}
 use Rattle.answer.specs.declared.answer.Buffer.{Buffer}
-use Rattle.answer.specs.declared.answer.Answer.{Answer}
-use Rattle.answer.specs.declared.answer.Answer.TheVariants.{Done, Refused}
+use Rattle.answer.specs.Answers.{Answer}
+use Rattle.std.specs.Prelude.{Ok, Err}
 use Rattle.answer.specs.Answers.{Short, FirstShort, Lengthened, Past, need_for, number_of, need_of, given, limited, after}
 use Rattle.answer.specs.Checks.{exactly}
 use Rattle.answer.proofs.Laws.{given-most, limited-most, without-need, short-first, done-limited, named-done, roomed-done, after-done, after-refused}
@@ -95,7 +95,7 @@ window-is (OfColumn job ls) k = refl
 window-is (OfMap job ls) k = refl
 
 -- its own tests change no answer
-passes : (job : Job) (a : Answer) (d : Counts) → checked job a ≡ Done d → a ≡ Done d
+passes : (job : Job) (a : Answer) (d : Counts) → checked job a ≡ Ok d → a ≡ Ok d
 passes (OfCheapColumn job l) = cheapLaws.passes job l
 passes (OfPlane job ls) = planeLaws.passes job ls
 passes (OfColumn job ls) = columnLaws.passes job ls
@@ -103,14 +103,14 @@ passes (OfMap job ls) = mapLaws.passes job ls
 
 -- ---- R10: a refused call leaves every buffer as it was
 module _ (job : Job) (B : Buffers) (e : Refusal) where
-  pub refused-build : whole_answer job B ≡ Refused e → built job B ≡ B
+  pub refused-build : whole_answer job B ≡ Err e → built job B ≡ B
   refused-build h = built-is job B ∙ sym (after-refused (whole_of (checked job) (faces job) B) B (lay_all (faces job) none B) (sym (whole_is job B) ∙ h))
 
-  pub refused-face : (k : ℕ) → face_answer job k B ≡ Refused e → faced job k B ≡ B
+  pub refused-face : (k : ℕ) → face_answer job k B ≡ Err e → faced job k B ≡ B
   refused-face k h = faced-is job k B ∙ sym (after-refused (one_of (checked job) (faces job) k B) B (lay_one (faces job) k none B) (sym (face-is job k B) ∙ h))
 
 -- ---- R16, N4: the counts of a done plan are the sums over its faces, at most 65,536 vertices and 262,144 indices
-pub counts-are-sums : (job : Job) (c : Counts) → planned job ≡ Done c → ((measure (faces job)).vertices.0 ≤ 65536) × (measure (faces job) ≡ c)
+pub counts-are-sums : (job : Job) (c : Counts) → planned job ≡ Ok c → ((measure (faces job)).vertices.0 ≤ 65536) × (measure (faces job) ≡ c)
 counts-are-sums job c e = done-limited (measure (faces job)) c (passes job (limited (measure (faces job))) c (sym (planned-is job) ∙ e))
 
 alone : (P : Mesh → Type 0) (m : Mesh) → P m → (k : ℕ) → k < 1 → P (face_at (m ∷ []) k)
@@ -123,7 +123,7 @@ all-few (OfPlane job ls) = alone FewIndices _ (planeLaws.plane-few job ls)
 all-few (OfColumn job ls) = columnLaws.column-few job ls
 all-few (OfMap job ls) = mapLaws.map-few job ls
 
-pub at_most : (job : Job) (c : Counts) → planned job ≡ Done c → (c.vertices.0 ≤ 65536) × (c.indices.0 ≤ 262144)
+pub at_most : (job : Job) (c : Counts) → planned job ≡ Ok c → (c.vertices.0 ≤ 65536) × (c.indices.0 ≤ 262144)
 at_most job c e =
     let s = counts-are-sums job c e in
     let v : c.vertices.0 ≤ 65536 = rw s.1 at s.0 in
@@ -131,30 +131,30 @@ at_most job c e =
     (v, omega (arith, v, f))
 
 -- ---- R5, R17: a call that is done has the plan's counts and the whole plan's room, a face call for a planned face
-pub done-build : (job : Job) (B : Buffers) (c : Counts) → whole_answer job B ≡ Done c → (planned job ≡ Done c) × RoomIn c B
+pub done-build : (job : Job) (B : Buffers) (c : Counts) → whole_answer job B ≡ Ok c → (planned job ≡ Ok c) × RoomIn c B
 done-build job B c e = let r = roomed-done (planned_of (checked job) (faces job)) c _ _ _ _ (sym (whole_is job B) ∙ e) in (planned-is job ∙ r.0, r.1)
 
-pub done-face : (job : Job) (k : ℕ) (B : Buffers) (c : Counts) → face_answer job k B ≡ Done c → (planned job ≡ Done c) × RoomIn c B × (k < length (faces job))
+pub done-face : (job : Job) (k : ℕ) (B : Buffers) (c : Counts) → face_answer job k B ≡ Ok c → (planned job ≡ Ok c) × RoomIn c B × (k < length (faces job))
 done-face job k B c e =
     let r = roomed-done _ c _ _ _ _ (sym (face-is job k B) ∙ e) in
     let n = named-done (planned_of (checked job) (faces job)) c k (length (faces job)) r.0 in
     (planned-is job ∙ n.0, r.1, n.1)
 
 -- and where these hold it is done; a number of no face is refused as such
-pub face-is-done : (job : Job) (c : Counts) → planned job ≡ Done c → (k : ℕ) (B : Buffers) → RoomIn c B → k < length (faces job) → face_answer job k B ≡ Done c
+pub face-is-done : (job : Job) (c : Counts) → planned job ≡ Ok c → (k : ℕ) (B : Buffers) → RoomIn c B → k < length (faces job) → face_answer job k B ≡ Ok c
 face-is-done job c p k B r h = face-is job k B ∙ face-answer (checked job) (faces job) c (sym (planned-is job) ∙ p) k B r h
 
-pub no-face-refused : (job : Job) (c : Counts) → planned job ≡ Done c → (k : ℕ) (B : Buffers) → length (faces job) ≤ k → face_answer job k B ≡ Refused NoFace
+pub no-face-refused : (job : Job) (c : Counts) → planned job ≡ Ok c → (k : ℕ) (B : Buffers) → length (faces job) ≤ k → face_answer job k B ≡ Err NoFace
 no-face-refused job c p k B h = face-is job k B ∙ no-face-answer (checked job) (faces job) c (sym (planned-is job) ∙ p) k B h
 
 -- ---- L1: an accepted plan and buffers that are too short for it: the build and each planned face are refused for the first
 -- such buffer, with what the whole plan needs in it
-module _ (job : Job) (c : Counts) (p : planned job ≡ Done c) (B : Buffers) where
+module _ (job : Job) (c : Counts) (p : planned job ≡ Ok c) (B : Buffers) where
   module _ (b : Buffer) (s : FirstShort c (length_in B) b) where
-    pub first-build : whole_answer job B ≡ Refused (Room b (need_for b c))
+    pub first-build : whole_answer job B ≡ Err (Room b (need_for b c))
     first-build = whole_is job B ∙ jobs.first-build (checked job) (faces job) c (sym (planned-is job) ∙ p) (at_most job c p).0 b B s
 
-    pub first-face : (k : ℕ) → k < length (faces job) → face_answer job k B ≡ Refused (Room b (need_for b c))
+    pub first-face : (k : ℕ) → k < length (faces job) → face_answer job k B ≡ Err (Room b (need_for b c))
     first-face k h = face-is job k B ∙ jobs.first-face (checked job) (faces job) c (sym (planned-is job) ∙ p) (at_most job c p).0 b B s k h
 
     -- with that one buffer at its need they are done, or refused for a later one
@@ -202,8 +202,8 @@ stored-most : (c : Counts) (good : Bool) (B : Buffers) → number_of (stored.ans
 stored-most c good B = tested-most (stored.holds_counts c (length B.vertices) (length B.normals) (length B.uvs) (length B.indices)) good (limited c) (limited-most c)
 
 not-empty-most : (a : Answer) → number_of a ≤ 4 → number_of (stored.not_empty a) ≤ 8
-not-empty-most (Refused e) h = le_trans h (lit≤ tt)
-not-empty-most (Done c) h = given-most 8 (ltb 0 c.vertices.0) Empty (Done c) (lit≤ tt) (lit≤ tt)
+not-empty-most (Err e) h = le_trans h (lit≤ tt)
+not-empty-most (Ok c) h = given-most 8 (ltb 0 c.vertices.0) Empty (Ok c) (lit≤ tt) (lit≤ tt)
 
 pub stored-without-need : (c : Counts) (good : Bool) (B : Buffers) → (need_of (stored.answer_of c good B) ≡ 0) × (need_of (stored.not_empty (stored.answer_of c good B)) ≡ 0)
 stored-without-need c good B =
@@ -212,17 +212,17 @@ stored-without-need c good B =
     (without-need a (omega (arith, h)), without-need (stored.not_empty a) (omega (arith, not-empty-most a h)))
 
 -- ---- X4: plan and whole build give the same refusal, or the same counts, whenever the planned room is there
-pub plan-and-build-agree : (job : Job) (B : Buffers) → ((c : Counts) → planned job ≡ Done c → RoomIn c B) → whole_answer job B ≡ planned job
+pub plan-and-build-agree : (job : Job) (B : Buffers) → ((c : Counts) → planned job ≡ Ok c → RoomIn c B) → whole_answer job B ≡ planned job
 plan-and-build-agree job B h = whole_is job B ∙ plan-and-build (checked job) (faces job) B (λ c e. h c (planned-is job ∙ e)) ∙ sym (planned-is job)
 
 -- and a refused plan is the whole build's refusal whatever is lent
-pub refused-plan-refuses : (job : Job) (B : Buffers) (e : Refusal) → planned job ≡ Refused e → whole_answer job B ≡ Refused e
+pub refused-plan-refuses : (job : Job) (B : Buffers) (e : Refusal) → planned job ≡ Err e → whole_answer job B ≡ Err e
 refused-plan-refuses job B e p = whole_is job B ∙ refused-plan (checked job) (faces job) B e (sym (planned-is job) ∙ p)
 
 -- ---- no call makes a buffer longer or shorter
 after-lengths : (a : Answer) (B C : Buffers) → SameLengths B C → SameLengths B (after a B C)
-after-lengths (Done c) B C s = s
-after-lengths (Refused e) B C s = lengths-same B
+after-lengths (Ok c) B C s = s
+after-lengths (Err e) B C s = lengths-same B
 
 pub face-lengths : (job : Job) (k : ℕ) (B : Buffers) → SameLengths B (faced job k B)
 face-lengths job k B = subst (SameLengths B) (sym (faced-is job k B)) (after-lengths (one_of (checked job) (faces job) k B) B (lay_one (faces job) k none B) (one-lengths (faces job) k none B))
@@ -237,7 +237,7 @@ only-its-face job k B h = subst (AlikeOutside (start_of (faces job) k) (start_of
 pub no-face-nothing : (job : Job) (k : ℕ) (B : Buffers) → length (faces job) ≤ k → faced job k B ≡ B
 no-face-nothing job k B h = faced-is job k B ∙ no-places (checked job) (faces job) k B h
 
-pub whole-face : (job : Job) (k : ℕ) (B : Buffers) (c : Counts) → face_answer job k B ≡ Done c → Holds (face_at (faces job) k) (start_of (faces job) k) (faced job k B)
+pub whole-face : (job : Job) (k : ℕ) (B : Buffers) (c : Counts) → face_answer job k B ≡ Ok c → Holds (face_at (faces job) k) (start_of (faces job) k) (faced job k B)
 whole-face job k B c e =
     subst (Holds (face_at (faces job) k) (start_of (faces job) k))
     (after-done (one_of (checked job) (faces job) k B) B (lay_one (faces job) k none B) (sym (face-is job k B) ∙ e) ∙ sym (faced-is job k B))
@@ -256,28 +256,28 @@ pub indices-in-faces : (job : Job) (p : ℕ) → p < (measure (faces job)).indic
 indices-in-faces job = indices-covered (faces job)
 
 -- ---- R12: how many faces an accepted job has is told, and a window is told exactly where its number is one of them
-pub faces-told : (job : Job) (c : Counts) → planned job ≡ Done c → faces_told job ≡ record { answer = Done c; faces = length (faces job) }
+pub faces-told : (job : Job) (c : Counts) → planned job ≡ Ok c → faces_told job ≡ record { answer = Ok c; faces = length (faces job) }
 faces-told job c p = told_is job ∙ places.told-faces (checked job) (faces job) c (sym (planned-is job) ∙ p)
 
-pub window-told : (job : Job) (c : Counts) → planned job ≡ Done c → (k : ℕ) → k < (faces_told job).faces
-    → window_told job k ≡ record { answer = Done c; start = start_of (faces job) k; size = size_of (face_at (faces job) k) }
+pub window-told : (job : Job) (c : Counts) → planned job ≡ Ok c → (k : ℕ) → k < (faces_told job).faces
+    → window_told job k ≡ record { answer = Ok c; start = start_of (faces job) k; size = size_of (face_at (faces job) k) }
 window-told job c p k h =
     window-is job k
     ∙ places.told-window (checked job) (faces job) c (sym (planned-is job) ∙ p) k (rw (ap (λ (t : Faces). t.faces) (faces-told job c p)) at h)
 
-pub done-window : (job : Job) (k : ℕ) (c : Counts) → (window_told job k).answer ≡ Done c → (planned job ≡ Done c) × (k < (faces_told job).faces)
+pub done-window : (job : Job) (k : ℕ) (c : Counts) → (window_told job k).answer ≡ Ok c → (planned job ≡ Ok c) × (k < (faces_told job).faces)
 done-window job k c e =
     let r = places.done-window (checked job) (faces job) c k (ap (λ (w : Window). w.answer) (sym (window-is job k)) ∙ e) in
     let p = planned-is job ∙ r.0 in
     (p, rw (ap (λ (t : Faces). t.faces) (faces-told job c p)) r.1)
 
 -- R10: beside a refusal every number is 0
-pub nothing-told : (job : Job) (k : ℕ) (e : Refusal) → ((faces_told job).answer ≡ Refused e → (faces_told job).faces ≡ 0)
-    × ((window_told job k).answer ≡ Refused e → ((window_told job k).start ≡ none) × ((window_told job k).size ≡ none))
+pub nothing-told : (job : Job) (k : ℕ) (e : Refusal) → ((faces_told job).answer ≡ Err e → (faces_told job).faces ≡ 0)
+    × ((window_told job k).answer ≡ Err e → ((window_told job k).start ≡ none) × ((window_told job k).size ≡ none))
 nothing-told job k e = (
   λ h. rw (told_is job) (ap (λ (a : Answer). (faces_by a (length (faces job))).faces) (ap (λ (t : Faces). t.answer) (sym (told_is job)) ∙ h)),
   λ h.
-      let a : (window_of (checked job) (faces job) k).answer ≡ Refused e = ap (λ (w : Window). w.answer) (sym (window-is job k)) ∙ h in
+      let a : (window_of (checked job) (faces job) k).answer ≡ Err e = ap (λ (w : Window). w.answer) (sym (window-is job k)) ∙ h in
       let s = start_of (faces job) k in
       let z = size_of (face_at (faces job) k) in
       (ap (λ (w : Window). w.start) (window-is job k) ∙ ap (λ (x : Answer). (window_by x s z).start) a, ap (λ (w : Window). w.size) (window-is job k) ∙ ap (λ (x : Answer). (window_by x s z).size) a),
@@ -285,14 +285,14 @@ nothing-told job k e = (
 
 -- ---- R16, R17: a done window is from where its face starts to where the next one does, in the words of all that is said
 -- of faces here
-module _ (job : Job) (k : ℕ) (c : Counts) (e : (window_told job k).answer ≡ Done c) where
+module _ (job : Job) (k : ℕ) (c : Counts) (e : (window_told job k).answer ≡ Ok c) where
   abbrev window : Window
   window = window_told job k
 
   there : k < length (faces job)
   there = rw (ap (λ (t : Faces). t.faces) (faces-told job c (done-window job k c e).0)) at (done-window job k c e).1
 
-  told : window ≡ record { answer = Done c; start = start_of (faces job) k; size = size_of (face_at (faces job) k) }
+  told : window ≡ record { answer = Ok c; start = start_of (faces job) k; size = size_of (face_at (faces job) k) }
   told = window-told job c (done-window job k c e).0 k (done-window job k c e).1
 
   pub window-starts : window.start ≡ start_of (faces job) k
@@ -321,29 +321,29 @@ module _ (job : Job) (k : ℕ) (c : Counts) (e : (window_told job k).answer ≡ 
       ∙ (counts-are-sums job c p).1
 
 -- the first starts at nothing, and each next one where the one before it ends
-pub first-window : (job : Job) (c : Counts) → (window_told job 0).answer ≡ Done c → (window_told job 0).start ≡ none
+pub first-window : (job : Job) (c : Counts) → (window_told job 0).answer ≡ Ok c → (window_told job 0).start ≡ none
 first-window job c e = window-starts job 0 c e
 
-pub next-window : (job : Job) (k : ℕ) (c : Counts) → (window_told job (suc k)).answer ≡ Done c → (window_told job (suc k)).start ≡ also (window_told job k).start (window_told job k).size
+pub next-window : (job : Job) (k : ℕ) (c : Counts) → (window_told job (suc k)).answer ≡ Ok c → (window_told job (suc k)).start ≡ also (window_told job k).start (window_told job k).size
 next-window job k c e =
     let d = done-window job (suc k) c e in
     window-starts job (suc k) c e ∙ sym (window-ends job k c (ap (λ (w : Window). w.answer) (window-told job c d.0 k (omega (arith, d.1)))))
 
 -- so that no two meet
-pub windows-do-not-meet : (job : Job) (j k : ℕ) (c : Counts) → j < k → (window_told job j).answer ≡ Done c → (window_told job k).answer ≡ Done c
+pub windows-do-not-meet : (job : Job) (j k : ℕ) (c : Counts) → j < k → (window_told job j).answer ≡ Ok c → (window_told job k).answer ≡ Ok c
     → ((also (window_told job j).start (window_told job j).size).vertices.0 ≤ (window_told job k).start.vertices.0)
     × ((also (window_told job j).start (window_told job j).size).indices.0 ≤ (window_told job k).start.indices.0)
 windows-do-not-meet job j k c h d e =
     rw (window-starts job j c d, window-size job j c d, window-starts job k c e) (faces-apart job j k h (there job j c d))
 
 -- ---- S4, S5: a done build leaves the one mesh of all faces, end to end, and nothing past it
-pub built-mesh : (job : Job) (B : Buffers) (c : Counts) → whole_answer job B ≡ Done c → Holds (joined (faces job)) none (built job B)
+pub built-mesh : (job : Job) (B : Buffers) (c : Counts) → whole_answer job B ≡ Ok c → Holds (joined (faces job)) none (built job B)
 built-mesh job B c e =
     subst (Holds (joined (faces job)) none)
     (after-done (whole_of (checked job) (faces job) B) B (lay_all (faces job) none B) (sym (whole_is job B) ∙ e) ∙ sym (built-is job B))
     (all-inside (faces job) none B)
 
-pub nothing-past : (job : Job) (B : Buffers) (c : Counts) → whole_answer job B ≡ Done c → AlikeOutside none c B (built job B)
+pub nothing-past : (job : Job) (B : Buffers) (c : Counts) → whole_answer job B ≡ Ok c → AlikeOutside none c B (built job B)
 nothing-past job B c e =
     let n : also none (measure (faces job)) ≡ c = none-also (measure (faces job)) ∙ (counts-are-sums job c (done-build job B c e).0).1 in
     subst (AlikeOutside none c B)
@@ -361,7 +361,7 @@ same_answer (TextureScale c by) B C s = rw (s.vertices, s.normals, s.uvs, s.indi
 same_answer (Centroid c) B C s = rw (s.vertices, s.normals, s.uvs, s.indices)
 same_answer (UvCentroid c) B C s = rw (s.vertices, s.normals, s.uvs, s.indices)
 
-pub refused-leaves : (c : Call) (B : Buffers) (e : Refusal) → answer_of c B ≡ Refused e → leaves c B ≡ B
+pub refused-leaves : (c : Call) (B : Buffers) (e : Refusal) → answer_of c B ≡ Err e → leaves c B ≡ B
 refused-leaves (Build job) B e h = refused-build job B e h
 refused-leaves (Face job k) B e h = refused-face job B e k h
 refused-leaves (Merge m S t) B e h = sym (after-refused (merge_answer m S t B) B (appended m S t B) h)
@@ -384,7 +384,7 @@ same_first n B C s =
       indices = same-take n.indices B.indices C.indices s.indices;
     }
 
-pub refused-first : (n : Lengths) (c : Call) (B : Buffers) (e : Refusal) → answer_of c (first n B) ≡ Refused e → leaves_first n c B ≡ B
+pub refused-first : (n : Lengths) (c : Call) (B : Buffers) (e : Refusal) → answer_of c (first n B) ≡ Err e → leaves_first n c B ≡ B
 refused-first n c B e h =
     ap (λ (C : Buffers). before n C B) (refused-leaves c (first n B) e h)
     ∙ same-four (take-append-drop n.vertices B.vertices) (take-append-drop n.normals B.normals) (take-append-drop n.uvs B.uvs) (take-append-drop n.indices B.indices)
@@ -400,7 +400,7 @@ first-few n c B =
     (⊎_elim (λ h. inr (inr (inl (take-few _ _ B.uvs h))))
     (λ h. inr (inr (inr (take-few _ _ B.indices h))))))
 
-pub own-short : (job : Job) (c : Counts) → planned job ≡ Done c → (n : Lengths) → Short c n.vertices n.normals n.uvs n.indices → (B : Buffers)
+pub own-short : (job : Job) (c : Counts) → planned job ≡ Ok c → (n : Lengths) → Short c n.vertices n.normals n.uvs n.indices → (B : Buffers)
     → RefusedRoom c (first n B) (answer_of (Build job) (first n B)) × ((k : ℕ) → k < length (faces job) → RefusedRoom c (first n B) (answer_of (Face job k) (first n B)))
 own-short job c p n s B = (short-build job c p (first n B) (first-few n c B s), λ k h. short-face job c p (first n B) (first-few n c B s) k h)
 
@@ -429,7 +429,7 @@ unfolding Named
 named-so k [] h = elim h [ ]
 named-so k (s ∷ ss) h = ⊎_elim (λ e. inl (ap step_of e)) (λ t. inr (named-so k ss t)) h
 
-pub any-order-of-calls : (job : Job) (B : Buffers) (c : Counts) → whole_answer job B ≡ Done c → (ss : List InRun) → OthersRefused B ss → ((k : ℕ) → k < length (faces job) → Among k ss)
+pub any-order-of-calls : (job : Job) (B : Buffers) (c : Counts) → whole_answer job B ≡ Ok c → (ss : List InRun) → OthersRefused B ss → ((k : ℕ) → k < length (faces job) → Among k ss)
     → run job ss B ≡ built job B
 any-order-of-calls job B c e ss r h =
     run-is-steps job B ss r B (lengths-same B)
@@ -443,7 +443,7 @@ all_own (OfPlane job ls) = alone Own _ (planeLaws.plane-own job ls)
 all_own (OfColumn job ls) = columnLaws.column-own job ls
 all_own (OfMap job ls) = mapLaws.map-own job ls
 
-pub triangles-own : (job : Job) (B : Buffers) (c : Counts) → whole_answer job B ≡ Done c → (i : ℕ) → 3 * i < c.indices.0 → InFace (faces job) (built job B).indices i
+pub triangles-own : (job : Job) (B : Buffers) (c : Counts) → whole_answer job B ≡ Ok c → (i : ℕ) → 3 * i < c.indices.0 → InFace (faces job) (built job B).indices i
 triangles-own job B c e i h =
     let d = done-build job B c e in
     let m : measure (faces job) ≡ c = (counts-are-sums job c d.0).1 in

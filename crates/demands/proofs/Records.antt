@@ -16,8 +16,8 @@ use Rattle.face.specs.Vec.{v2}
 use Rattle.face.proofs.Filling.{each_at, each_all}
 use Rattle.answer.specs.declared.answer.Refusal.{Refusal}
 use Rattle.answer.specs.declared.answer.Refusal.TheVariants.{Shape}
-use Rattle.answer.specs.declared.answer.Answer.{Answer}
-use Rattle.answer.specs.declared.answer.Answer.TheVariants.{Done, Refused}
+use Rattle.answer.specs.Answers.{Answer}
+use Rattle.std.specs.Prelude.{Ok, Err}
 use Rattle.answer.specs.Checks.{cell_count}
 use Rattle.buffers.specs.Mesh.{none}
 use Rattle.buffers.specs.Laying.{laid}
@@ -50,8 +50,8 @@ both false b e = absurd (subst (λ (b : Bool). cond b ⊥ (Unit {0})) e tt)
 
 -- ---- what a load leaves
 doneness : Answer → Bool
-doneness (Done d) = true
-doneness (Refused w) = false
+doneness (Ok d) = true
+doneness (Err w) = false
 
 module _ (cs : List Cell) (l : List Float) (m : List ℕ) where
   abbrev answer : Answer
@@ -60,21 +60,21 @@ module _ (cs : List Cell) (l : List Float) (m : List ℕ) where
   abbrev ok : Bool
   ok = loadable (length cs) (length l) (length m)
 
-  decided : (b : Bool) → doneness (cond b (Done none) (Refused Shape)) ≡ b
+  decided : (b : Bool) → doneness (cond b (Ok none) (Err Shape)) ≡ b
   unfolding doneness
   decided true = refl
   decided false = refl
 
-  done_ok : (d : Counts) → answer ≡ Done d → ok ≡ true
+  done_ok : (d : Counts) → answer ≡ Ok d → ok ≡ true
   unfolding load_answer doneness
   done_ok d e = sym (decided ok) ∙ ap doneness e
 
-  refused-not : (why : Refusal) → answer ≡ Refused why → ok ≡ false
+  refused-not : (why : Refusal) → answer ≡ Err why → ok ≡ false
   unfolding load_answer doneness
   refused-not why e = sym (decided ok) ∙ ap doneness e
 
   -- refused: nothing is written
-  pub refused-load : (why : Refusal) → answer ≡ Refused why → (numbers_loaded cs l m ≡ l) × (neighbours_loaded cs l m ≡ m)
+  pub refused-load : (why : Refusal) → answer ≡ Err why → (numbers_loaded cs l m ≡ l) × (neighbours_loaded cs l m ≡ m)
   unfolding numbers_loaded neighbours_loaded
   refused-load why e = let n = refused-not why e in (rw n, rw n)
 
@@ -85,13 +85,13 @@ module _ (cs : List Cell) (l : List Float) (m : List ℕ) where
       (leb-true (27 * length cs) (length l) b.0, leb-true (6 * length cs) (length m) b.1)
 
   -- done: the cells' numbers from the start
-  pub numbers-part : (d : Counts) → answer ≡ Done d → take (27 * length cs) (numbers_loaded cs l m) ≡ flat_numbers cs
+  pub numbers-part : (d : Counts) → answer ≡ Ok d → take (27 * length cs) (numbers_loaded cs l m) ≡ flat_numbers cs
   unfolding numbers_loaded
   numbers-part d e =
       let y = done_ok d e in
       rw y (part l (flat_numbers cs) (27 * length cs) (spread-length numbers_of 27 numbers-27 cs) (fit y).0)
 
-  pub neighbours-part : (d : Counts) → answer ≡ Done d → take (6 * length cs) (neighbours_loaded cs l m) ≡ flat_neighbours cs
+  pub neighbours-part : (d : Counts) → answer ≡ Ok d → take (6 * length cs) (neighbours_loaded cs l m) ≡ flat_neighbours cs
   unfolding neighbours_loaded
   neighbours-part d e =
       let y = done_ok d e in
@@ -112,7 +112,7 @@ module _ (cs : List Cell) (l : List Float) (m : List ℕ) where
 
   -- so a map that is lent the loaded parts is the job of the records: each of its calls answers, leaves and tells what that
   -- job says, and every demand holds of it
-  pub loaded-job : (d : Counts) → answer ≡ Done d → (job : HeightMap) (fs : List Float) (us : List ℕ) (ps ks : List Float) (ms : List ℕ)
+  pub loaded-job : (d : Counts) → answer ≡ Ok d → (job : HeightMap) (fs : List Float) (us : List ℕ) (ps ks : List Float) (ms : List ℕ)
       → of_parts job (length cs) (numbers_loaded cs l m) (neighbours_loaded cs l m) fs us ps ks ms ≡ of_records job cs fs us ps ks ms
   loaded-job d e job fs us ps ks ms = ap₂ (λ (a : List Float) (b : List ℕ). OfMap job (lists (grid a b fs) us ps ks ms)) (numbers-part d e) (neighbours-part d e)
 

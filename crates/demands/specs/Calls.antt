@@ -5,8 +5,8 @@ use Rattle.face.specs.declared.vec.Vec2.{Vec2}
 use Rattle.face.specs.declared.vec.Vec3.{Vec3}
 use Rattle.face.specs.declared.triangle.Counts.{Counts}
 use Rattle.answer.specs.declared.answer.Refusal.{Refusal}
-use Rattle.answer.specs.declared.answer.Answer.{Answer}
-use Rattle.answer.specs.declared.answer.Answer.TheVariants.{Refused}
+use Rattle.answer.specs.Answers.{Answer}
+use Rattle.std.specs.Prelude.{Err}
 use Rattle.buffers.specs.Laying.{Buffers, four}
 use Rattle.mesh.specs.Stored as stored
 use Rattle.merge.specs.Merge.{merge_answer, merged}
@@ -80,7 +80,7 @@ run job (s ∷ ss) B = run job ss (stepped job s B)
 -- R10: an answer that is some refusal
 pub record IsRefused (a : Answer) : Type 0 where
   pub why : Refusal
-  pub so : a ≡ Refused why
+  pub so : a ≡ Err why
 
 -- the calls between are refused in the buffers that the run begins with; an answer goes by their lengths, which no call
 -- of the run changes

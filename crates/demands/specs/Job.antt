@@ -1,6 +1,6 @@
 -- Every kind of job as one; R15 and R16 are rows of docs/TRACE.md. Definitions only.
 use Rattle.std.specs.Prelude.{List, ℕ, Float}
-use Rattle.answer.specs.declared.answer.Answer.{Answer}
+use Rattle.answer.specs.Answers.{Answer}
 use Rattle.buffers.specs.Mesh.{Mesh}
 use Rattle.buffers.specs.Laying.{Buffers}
 use Rattle.mesh.specs.declared.windows.Faces.{Faces}

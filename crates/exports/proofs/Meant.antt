@@ -2,8 +2,8 @@
 use mathlib.Core.Path.{◌≡◌, sym, ap}
 use mathlib.Core.Bool.{Bool, true, false, cond}
 use Rattle.answer.specs.declared.answer.Refusal.TheVariants.{Shape}
-use Rattle.answer.specs.declared.answer.Answer.{Answer}
-use Rattle.answer.specs.declared.answer.Answer.TheVariants.{Refused}
+use Rattle.answer.specs.Answers.{Answer}
+use Rattle.std.specs.Prelude.{Err}
 use Rattle.answer.specs.Answers.{given}
 use Rattle.boundary.specs.declared.jobs.CHeightMap.{CHeightMap}
 use Rattle.boundary.specs.FromC.{is_fringe}
@@ -12,7 +12,7 @@ module _ (job : CHeightMap) where
   pub meant : (x : Answer) → is_fringe job.fringe ≡ true → x ≡ given (is_fringe job.fringe) Shape x
   meant x e = sym (ap (λ (b : Bool). given b Shape x) e)
 
-  pub unmeant : (x : Answer) → is_fringe job.fringe ≡ false → Refused Shape ≡ given (is_fringe job.fringe) Shape x
+  pub unmeant : (x : Answer) → is_fringe job.fringe ≡ false → Err Shape ≡ given (is_fringe job.fringe) Shape x
   unmeant x e = sym (ap (λ (b : Bool). given b Shape x) e)
 
   pub kept : {A : Type 0} (C X : A) → is_fringe job.fringe ≡ true → C ≡ cond (is_fringe job.fringe) C X

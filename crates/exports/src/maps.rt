@@ -37,7 +37,7 @@ pub fn hosirekar_heightmap_plan(
             marks,
         ));
     }
-    boundary::to_c::answer_to_c(Answer::Refused(Refusal::Shape))
+    boundary::to_c::answer_to_c(Err(Refusal::Shape))
 }
 
 // How many faces the job has, or why it is refused.
@@ -65,7 +65,7 @@ pub fn hosirekar_heightmap_faces(
             marks,
         ));
     }
-    let refused = Answer::Refused(Refusal::Shape);
+    let refused = Err(Refusal::Shape);
     boundary::to_c::faces_to_c(mesh::windows::faces_if_done(refused, 0))
 }
 
@@ -96,7 +96,7 @@ pub fn hosirekar_heightmap_window(
             number,
         ));
     }
-    let refused = Answer::Refused(Refusal::Shape);
+    let refused = Err(Refusal::Shape);
     boundary::to_c::window_to_c(mesh::windows::window_of_all(refused))
 }
 
@@ -197,7 +197,7 @@ pub fn hosirekar_heightmap_build(
             indices,
         ));
     }
-    boundary::to_c::answer_to_c(Answer::Refused(Refusal::Shape))
+    boundary::to_c::answer_to_c(Err(Refusal::Shape))
 }
 
 // One face of the job, by its number: of each cell the cap, then the sides that stand.
@@ -236,5 +236,5 @@ pub fn hosirekar_heightmap_face(
             indices,
         ));
     }
-    boundary::to_c::answer_to_c(Answer::Refused(Refusal::Shape))
+    boundary::to_c::answer_to_c(Err(Refusal::Shape))
 }

@@ -5,8 +5,8 @@ use lib.ListN.{length}
 use Rattle.face.specs.declared.triangle.Counts.{Counts}
 use Rattle.face.specs.Face.{altered_quad}
 use Rattle.answer.specs.declared.answer.Refusal.TheVariants.{Shape, Range, Neighbour}
-use Rattle.answer.specs.declared.answer.Answer.{Answer}
-use Rattle.answer.specs.declared.answer.Answer.TheVariants.{Done}
+use Rattle.answer.specs.Answers.{Answer}
+use Rattle.std.specs.Prelude.{Ok}
 use Rattle.answer.proofs.Laws.{given-done}
 use Rattle.buffers.specs.Windows.{face_at, Own, AllOwn}
 use Rattle.buffers.proofs.Faces.{FewIndices, wall-few}
@@ -20,7 +20,7 @@ use Rattle.heightmap.specs.HeightMap.{Lists, map_names, option_of, side_stand, c
 use Rattle.heightmap.specs.Tests.{shape_of, range_of, linked_of, checked}
 
 module _ (job : HeightMap) (ls : Lists) where
-  pub passes : (a : Answer) (d : Counts) → checked job ls a ≡ Done d → a ≡ Done d
+  pub passes : (a : Answer) (d : Counts) → checked job ls a ≡ Ok d → a ≡ Ok d
   passes a d e =
       let s = given-done (shape_of job ls) Shape _ e in
       let r = given-done (range_of job ls) Range _ s.1 in

@@ -12,7 +12,7 @@ use lib.Ieee.{Float, nan, inf, fin, is_nan, of_bits, neg, up, down, below, level
 use Rattle.face.specs.declared.triangle.Counts.{Counts}
 use Rattle.face.specs.Vec.{f0}
 use Rattle.answer.specs.declared.answer.Refusal.TheVariants.{Shape, Range, Neighbour}
-use Rattle.answer.specs.declared.answer.Answer.TheVariants.{Done}
+use Rattle.std.specs.Prelude.{Ok}
 use Rattle.answer.specs.Checks.{in_range, all_in_range, exactly, is_neighbour, cell_count}
 use Rattle.answer.proofs.Laws.{every-at, &&-left, &&-right, given-done}
 use Rattle.answer.proofs.Bench.{nan-out-of-range}
@@ -94,7 +94,7 @@ linked-cell n cells e h = go (eqb n nobody) refl e
     go true p q = absurd (h (eqb-true n nobody p))
     go false p q = ltb-true n cells q
 
-module _ (job : HeightMap) (ls : Lists) (c : Counts) (e : planned job ls ≡ Done c) where
+module _ (job : HeightMap) (ls : Lists) (c : Counts) (e : planned job ls ≡ Ok c) where
   abbrev n : ℕ
   n = cells_in ls.grid.cells
 

@@ -9,7 +9,7 @@ use Rattle.face.specs.Lists.{each}
 use Rattle.face.specs.Vec.{v2, v3, f0, f1}
 use Rattle.face.specs.Triangles.{counts}
 use Rattle.answer.specs.declared.answer.Refusal.TheVariants.{Shape, Range, Neighbour, NoFace}
-use Rattle.answer.specs.declared.answer.Answer.TheVariants.{Done, Refused}
+use Rattle.std.specs.Prelude.{Ok, Err}
 use Rattle.placement.specs.declared.options.Choice.{Choice}
 use Rattle.placement.specs.declared.options.Choice.TheVariants as option
 use Rattle.placement.specs.declared.placement.Choice3.TheVariants as choice
@@ -220,10 +220,10 @@ starts = (refl, refl, refl)
 
 -- the same as a caller is told it: the last side of the first cell, the cap after it, and no tenth face
 pub windows :
-    (faces_told fringed (plainly edged) ≡ record { answer = Done (counts 40 66); faces = 9 })
-    × (window_told fringed (plainly edged) 4 ≡ record { answer = Done (counts 40 66); start = counts 18 30; size = counts 4 6 })
-    × (window_told fringed (plainly edged) 5 ≡ record { answer = Done (counts 40 66); start = counts 22 36; size = counts 6 12 })
-    × (window_told fringed (plainly edged) 9 ≡ record { answer = Refused NoFace; start = none; size = none })
+    (faces_told fringed (plainly edged) ≡ record { answer = Ok (counts 40 66); faces = 9 })
+    × (window_told fringed (plainly edged) 4 ≡ record { answer = Ok (counts 40 66); start = counts 18 30; size = counts 4 6 })
+    × (window_told fringed (plainly edged) 5 ≡ record { answer = Ok (counts 40 66); start = counts 22 36; size = counts 6 12 })
+    × (window_told fringed (plainly edged) 9 ≡ record { answer = Err NoFace; start = none; size = none })
 unfolding opened
 windows = (refl, refl, refl, refl)
 
@@ -238,11 +238,11 @@ abbrev seven : ℕ → ℕ → List ℕ
 seven c s = c ∷ s ∷ each (λ i. 255) 12
 
 pub customs-chosen :
-    (planned (custom default default) (chosen_for (seven 255 0)) ≡ Done (counts 20 48))
-    × (planned (custom option.Absent (option.With 0)) (chosen_for (seven 0 255)) ≡ Done (counts 8 24))
-    × (planned (custom default option.Absent) (chosen_for (seven 0 0)) ≡ Done (counts 18 48))
-    × (planned (custom default option.Absent) (chosen_for (seven 255 1)) ≡ Refused Shape)
-    × (planned (custom option.Absent default) (chosen_for (seven 1 255)) ≡ Refused Shape)
+    (planned (custom default default) (chosen_for (seven 255 0)) ≡ Ok (counts 20 48))
+    × (planned (custom option.Absent (option.With 0)) (chosen_for (seven 0 255)) ≡ Ok (counts 8 24))
+    × (planned (custom default option.Absent) (chosen_for (seven 0 0)) ≡ Ok (counts 18 48))
+    × (planned (custom default option.Absent) (chosen_for (seven 255 1)) ≡ Err Shape)
+    × (planned (custom option.Absent default) (chosen_for (seven 1 255)) ≡ Err Shape)
 unfolding opened
 customs-chosen = (refl, refl, refl, refl, refl)
 
@@ -251,16 +251,16 @@ abbrev pub faulty : ℕ → ℕ → ℕ → List Float → Lists
 faulty n h x fs = lists (grid (cell h 0 0) (n ∷ each (λ d. nobody) 5) fs) [] (each (λ i. f0) x) [] []
 
 pub refusals :
-    (planned bare (faulty 1 0x4974_2401 11 []) ≡ Refused Shape)
-    × (planned bare (faulty 1 0x4974_2401 12 []) ≡ Refused Range)
-    × (planned bare (faulty 1 0x4974_2400 12 []) ≡ Refused Neighbour)
-    × (planned bare (faulty 0 0x4974_2400 12 (bits 0x4974_2401 ∷ [])) ≡ Done (counts 6 12))
-    × (planned fringed (faulty 0 0x4974_2400 12 (bits 0x4974_2401 ∷ [])) ≡ Refused Shape)
-    × (planned fringed (faulty 0 0x4974_2400 12 (each (λ d. bits 0x4974_2401) 6)) ≡ Refused Range)
+    (planned bare (faulty 1 0x4974_2401 11 []) ≡ Err Shape)
+    × (planned bare (faulty 1 0x4974_2401 12 []) ≡ Err Range)
+    × (planned bare (faulty 1 0x4974_2400 12 []) ≡ Err Neighbour)
+    × (planned bare (faulty 0 0x4974_2400 12 (bits 0x4974_2401 ∷ [])) ≡ Ok (counts 6 12))
+    × (planned fringed (faulty 0 0x4974_2400 12 (bits 0x4974_2401 ∷ [])) ≡ Err Shape)
+    × (planned fringed (faulty 0 0x4974_2400 12 (each (λ d. bits 0x4974_2401) 6)) ≡ Err Range)
 unfolding opened
 refusals = (refl, refl, refl, refl, refl, refl)
 
 -- no cells: done, with nothing
-pub no_cells : (planned bare (plainly (grid [] [] [])) ≡ Done (counts 0 0)) × (tested bare (plainly (grid [] [] [])) ≡ Done (counts 0 0))
+pub no_cells : (planned bare (plainly (grid [] [] [])) ≡ Ok (counts 0 0)) × (tested bare (plainly (grid [] [] [])) ≡ Ok (counts 0 0))
 unfolding opened
 no_cells = (refl, refl)

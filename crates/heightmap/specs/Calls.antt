@@ -1,6 +1,6 @@
 -- What a whole build and a face call of a height map answer and leave, and what is told of its faces; R11 to R17 are rows of docs/TRACE.md. Definitions only.
 use Rattle.std.specs.Prelude.{ℕ}
-use Rattle.answer.specs.declared.answer.Answer.{Answer}
+use Rattle.answer.specs.Answers.{Answer}
 use Rattle.buffers.specs.Laying.{Buffers}
 use Rattle.mesh.specs.declared.windows.Faces.{Faces}
 use Rattle.mesh.specs.declared.windows.Window.{Window}

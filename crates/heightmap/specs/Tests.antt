@@ -2,8 +2,8 @@
 -- rows of docs/TRACE.md. Definitions only.
 use Rattle.std.specs.Prelude.{ℕ, Bool, true, ◌&&◌, List, length, Float}
 use Rattle.answer.specs.declared.answer.Refusal.TheVariants.{Shape, Range, Neighbour}
-use Rattle.answer.specs.declared.answer.Answer.{Answer}
-use Rattle.answer.specs.declared.answer.Answer.TheVariants.{Done}
+use Rattle.answer.specs.Answers.{Answer}
+use Rattle.std.specs.Prelude.{Ok}
 use Rattle.answer.specs.Answers.{given}
 use Rattle.answer.specs.Checks.{every, in_range, in_range2, all_in_range, exactly, names_option, is_neighbour, cell_count}
 use Rattle.placement.specs.Options.{entry_count, is_table, choice_names}
@@ -86,7 +86,7 @@ checked job ls rest = given (shape_of job ls) Shape (given (range_of job ls) Ran
 
 -- the sums over the faces, however great, after 1 to 3 alone
 abbrev pub tested : HeightMap → Lists → Answer
-tested job ls = checked job ls (Done (measure (map_faces job ls)))
+tested job ls = checked job ls (Ok (measure (map_faces job ls)))
 
 -- R11, R18: .. then 4
 abbrev pub planned : HeightMap → Lists → Answer

@@ -6,7 +6,7 @@ use native.Mathlib.Omega.{arith}
 use lib.Ieee.{Float}
 use lib.ListN.{length, length-map}
 use Rattle.face.specs.declared.triangle.Counts.{Counts}
-use Rattle.answer.specs.declared.answer.Answer.TheVariants.{Done}
+use Rattle.std.specs.Prelude.{Ok}
 use Rattle.answer.specs.Answers.{named}
 use Rattle.answer.proofs.Laws.{named-done, roomed-done}
 use Rattle.buffers.specs.Mesh.{none}
@@ -33,7 +33,7 @@ module _ (job : HeightMap) (g : Grid) (us : List ℕ) (ps xs : List Float) (ms :
   abbrev whole : Lists
   whole = lists g us ps xs ms
 
-  pub face-laid : (k : ℕ) (B : Buffers) (d : Counts) (found : Found) → face_answer job whole k B ≡ Done d → found ≡ found_at job bare k
+  pub face-laid : (k : ℕ) (B : Buffers) (d : Counts) (found : Found) → face_answer job whole k B ≡ Ok d → found ≡ found_at job bare k
       → laid_if_fits (mesh_of job whole found.name) found.start B ≡ lay_one (map_faces job whole) k none B
   face-laid k B d found e f =
       let r = face-room (checked job whole) (map_faces job whole) (passes job whole) k B d e in

@@ -56,13 +56,13 @@ pub fn build(
         indices.len(),
     );
     match answer {
-        Answer::Refused(why) => Answer::Refused(why),
-        Answer::Done(counts) => {
+        Err(why) => Err(why),
+        Ok(counts) => {
             heightmap_laying::put_all(
                 job, cells, neighbours, fringe, customs, corners, numbers, marks, vertices,
                 normals, uvs, indices,
             );
-            Answer::Done(counts)
+            Ok(counts)
         }
     }
 }
@@ -98,15 +98,15 @@ pub fn face(
         indices.len(),
     );
     match roomed {
-        Answer::Refused(why) => Answer::Refused(why),
-        Answer::Done(whole) => {
+        Err(why) => Err(why),
+        Ok(whole) => {
             let name = found.name;
             let at = found.start;
             heightmap_laying::put_named(
                 job, name, at, cells, neighbours, fringe, customs, corners, numbers, marks,
                 vertices, normals, uvs, indices,
             );
-            Answer::Done(whole)
+            Ok(whole)
         }
     }
 }

@@ -4,8 +4,8 @@ use mathlib.Core.Bool.{Bool, true, false, ◌&&◌}
 use lib.ListN.{length}
 use Rattle.face.specs.declared.triangle.Counts.{Counts}
 use Rattle.answer.specs.declared.answer.Refusal.TheVariants.{Shape, Range, Neighbour}
-use Rattle.answer.specs.declared.answer.Answer.{Answer}
-use Rattle.answer.specs.declared.answer.Answer.TheVariants.{Refused}
+use Rattle.answer.specs.Answers.{Answer}
+use Rattle.std.specs.Prelude.{Err}
 use Rattle.answer.specs.Answers.{given}
 use Rattle.answer.specs.Checks.{exactly, cell_count}
 use Rattle.answer.proofs.Laws.{&&-left}
@@ -33,10 +33,10 @@ module _ (job : HeightMap) (ls : Lists) where
   pub all-counted : (t : Tally) → shape_of job ls ≡ true → t ≡ tally_of job ls → t.counts ≡ map_counts job ls
   all-counted t e p = ap (λ (x : Tally). x.counts) p ∙ rw (few-cells e)
 
-  pub misshapen : (rest : Answer) → shape_of job ls ≡ false → Refused Shape ≡ checked job ls rest
+  pub misshapen : (rest : Answer) → shape_of job ls ≡ false → Err Shape ≡ checked job ls rest
   misshapen rest e = sym (ap (λ (s : Bool). three s (range_of job ls) (linked_of ls.grid) rest) e)
 
-  pub out_of_range : (rest : Answer) → shape_of job ls ≡ true → range_of job ls ≡ false → Refused Range ≡ checked job ls rest
+  pub out_of_range : (rest : Answer) → shape_of job ls ≡ true → range_of job ls ≡ false → Err Range ≡ checked job ls rest
   out_of_range rest e f = sym (ap₂ (λ (s r : Bool). three s r (linked_of ls.grid) rest) e f)
 
   pub links-decide : (rest : Answer) → shape_of job ls ≡ true → range_of job ls ≡ true → (l : Bool) → linked_of ls.grid ≡ l → given l Neighbour rest ≡ checked job ls rest

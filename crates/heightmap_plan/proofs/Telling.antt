@@ -9,8 +9,8 @@ use lib.Ieee.{Float}
 use lib.ListN.{length, length-map}
 use Rattle.face.specs.declared.triangle.Counts.{Counts}
 use Rattle.answer.specs.declared.answer.Refusal.TheVariants.{Shape}
-use Rattle.answer.specs.declared.answer.Answer.{Answer}
-use Rattle.answer.specs.declared.answer.Answer.TheVariants.{Done, Refused}
+use Rattle.answer.specs.Answers.{Answer}
+use Rattle.std.specs.Prelude.{Ok, Err}
 use Rattle.answer.specs.Answers.{named}
 use Rattle.answer.specs.Checks.{cell_count}
 use Rattle.answer.proofs.Laws.{given-done, named-done}
@@ -51,7 +51,7 @@ module _ (job : HeightMap) (g : Grid) (us : List ℕ) (ps xs : List Float) (ms :
   size-by (Cap k) = sym (size-of job whole (Cap k))
   size-by (Side k d) = sym (size-of job whole (Side k d))
 
-  pub planned-few : (c : Counts) → planned job whole ≡ Done c → cell_count (cells_in g.cells) ≡ true
+  pub planned-few : (c : Counts) → planned job whole ≡ Ok c → cell_count (cells_in g.cells) ≡ true
   planned-few c e = few-cells job whole (given-done (shape_of job whole) Shape _ e).0
 
   face-total : length (map_names job g) ≡ length (map_faces job whole)
@@ -73,9 +73,9 @@ module _ (job : HeightMap) (g : Grid) (us : List ℕ) (ps xs : List Float) (ms :
     pub named-so : (k : ℕ) → named (planned job whole) k t.faces ≡ numbered job whole k
     named-so k = go (planned job whole) planned-few
       where
-        go : (a : Answer) → ((c : Counts) → a ≡ Done c → cell_count (cells_in g.cells) ≡ true) → named a k t.faces ≡ named a k (length (map_faces job whole))
-        go (Refused w) h = refl
-        go (Done c) h = ap (named (Done c) k) (faces-so (h c refl))
+        go : (a : Answer) → ((c : Counts) → a ≡ Ok c → cell_count (cells_in g.cells) ≡ true) → named a k t.faces ≡ named a k (length (map_faces job whole))
+        go (Err w) h = refl
+        go (Ok c) h = ap (named (Ok c) k) (faces-so (h c refl))
 
   -- ---- the face of a number, where the plan is done
   module _ (k : ℕ) (found : Found) (e : found ≡ found_at job bare k) where
@@ -90,7 +90,7 @@ module _ (job : HeightMap) (g : Grid) (us : List ℕ) (ps xs : List Float) (ms :
         window_same a found.start (start_of (map_faces job whole) k) z (size_of (face_at (map_faces job whole) k)) here
         ∙ ap (λ (x : Answer). window_by x (start_of (map_faces job whole) k) (size_of (face_at (map_faces job whole) k))) p
       where
-        here : (c : Counts) → a ≡ Done c → (found.start ≡ start_of (map_faces job whole) k) × (z ≡ size_of (face_at (map_faces job whole) k))
+        here : (c : Counts) → a ≡ Ok c → (found.start ≡ start_of (map_faces job whole) k) × (z ≡ size_of (face_at (map_faces job whole) k))
         here c d =
             let n = named-done (planned job whole) c k (length (map_faces job whole)) (sym p ∙ d) in
             let few = planned-few c n.0 in

@@ -3,7 +3,7 @@
 use Rattle.std.specs.Prelude.{ℕ, ◌&&◌, cond, List, [], map, ltb, length, get_or}
 use Rattle.face.specs.declared.triangle.Counts.{Counts}
 use Rattle.face.specs.Lists.{chain}
-use Rattle.answer.specs.declared.answer.Answer.{Answer}
+use Rattle.answer.specs.Answers.{Answer}
 use Rattle.answer.specs.Answers.{named}
 use Rattle.answer.specs.Checks.{cell_count}
 use Rattle.buffers.specs.Mesh.{none, also, start_of}

@@ -188,11 +188,11 @@ pub fn check(
             if answer::check::all_neighbours(neighbours, n) {
                 return rest;
             }
-            return Answer::Refused(Refusal::Neighbour);
+            return Err(Refusal::Neighbour);
         }
-        return Answer::Refused(Refusal::Range);
+        return Err(Refusal::Range);
     }
-    Answer::Refused(Refusal::Shape)
+    Err(Refusal::Shape)
 }
 
 // The counts of the job, however great, or why it is refused before they are asked for. The walk over the cells comes
@@ -213,7 +213,7 @@ pub fn test(
     let counts = all.counts;
     check(
         job,
-        Answer::Done(counts),
+        Ok(counts),
         cells,
         neighbours,
         fringe,

@@ -10,8 +10,8 @@ use lib.Ieee.{Float}
 use lib.ListN.{length}
 use Rattle.face.specs.declared.triangle.Counts.{Counts}
 use Rattle.answer.specs.declared.answer.Refusal.{Refusal}
-use Rattle.answer.specs.declared.answer.Answer.{Answer}
-use Rattle.answer.specs.declared.answer.Answer.TheVariants.{Done, Refused}
+use Rattle.answer.specs.Answers.{Answer}
+use Rattle.std.specs.Prelude.{Ok, Err}
 use Rattle.answer.specs.Answers.{limited, named}
 use Rattle.answer.proofs.Laws.{named-done}
 use Rattle.heightmap.specs.declared.Wall.{Wall}
@@ -31,10 +31,10 @@ use Rattle.heightmap_why.specs.declared.Reason.{Reason}
 use Rattle.heightmap_why.specs.Why.{reason_by, reason_of, side_named, side_answer, side_tested, why_by, why_told, which_by, which_told}
 
 -- what stands beside a refusal does not matter, where it is not told
-same-told : {A B : Type 0} (by : Answer → A → B) → ((e : Refusal) (x y : A) → by (Refused e) x ≡ by (Refused e) y)
-    → (a : Answer) (x y : A) → ((c : Counts) → a ≡ Done c → x ≡ y) → by a x ≡ by a y
-same-told by r (Refused e) x y h = r e x y
-same-told by r (Done c) x y h = ap (by (Done c)) (h c refl)
+same-told : {A B : Type 0} (by : Answer → A → B) → ((e : Refusal) (x y : A) → by (Err e) x ≡ by (Err e) y)
+    → (a : Answer) (x y : A) → ((c : Counts) → a ≡ Ok c → x ≡ y) → by a x ≡ by a y
+same-told by r (Err e) x y h = r e x y
+same-told by r (Ok c) x y h = ap (by (Ok c)) (h c refl)
 
 module _ (job : HeightMap) (g : Grid) (us : List ℕ) (ps xs : List Float) (ms : List ℕ) where
   abbrev ls : Lists
@@ -46,7 +46,7 @@ module _ (job : HeightMap) (g : Grid) (us : List ℕ) (ps xs : List Float) (ms :
     counted t e = ap (λ (x : Answer). side_named ls x k side) (counted-first job ls limited t e)
 
     reason-so : (d number : ℕ) (w : Wall) (c : Counts) → d ≡ cond (ltb side 6) side 0 → number ≡ side_number job g k d → w ≡ wall job g k d
-        → side_answer job ls k side ≡ Done c → reason_by w number ≡ reason_of job g k side
+        → side_answer job ls k side ≡ Ok c → reason_by w number ≡ reason_of job g k side
     reason-so d number w c e p q h =
         let s = named-done (named (planned job ls) k (cells_in g.cells)) c side 6 h in
         let n = named-done (planned job ls) c k (cells_in g.cells) s.0 in
@@ -64,7 +64,7 @@ module _ (job : HeightMap) (g : Grid) (us : List ℕ) (ps xs : List Float) (ms :
   pub which-so : (i : ℕ) (found : Found) (a : Answer) → found ≡ found_at job (lists g us [] xs ms) i → a ≡ numbered job ls i → which_by a found.name ≡ which_told job ls i
   which-so i found a e p = ap (λ (x : Answer). which_by x found.name) p ∙ same-told which_by (λ e x y. refl) (numbered job ls i) found.name (name_at job g i) here
     where
-      here : (c : Counts) → numbered job ls i ≡ Done c → found.name ≡ name_at job g i
+      here : (c : Counts) → numbered job ls i ≡ Ok c → found.name ≡ name_at job g i
       here c d =
           let n = named-done (planned job ls) c i (length (map_faces job ls)) d in
           ap (λ (x : Found). x.name) (found-so job g us ps xs ms i found e (planned-few job g us ps xs ms c n.0))

@@ -3,8 +3,8 @@
 use Rattle.std.specs.Prelude.{ℕ, Float}
 use Rattle.face.specs.declared.triangle.Counts.{Counts}
 use Rattle.face.specs.Vec.{f0}
-use Rattle.answer.specs.declared.answer.Answer.{Answer}
-use Rattle.answer.specs.declared.answer.Answer.TheVariants as answer
+use Rattle.answer.specs.Answers.{Answer}
+use Rattle.std.specs.Prelude.{Ok, Err}
 use Rattle.answer.specs.Answers.{limited, named}
 use Rattle.heightmap.specs.declared.Wall.{Wall}
 use Rattle.heightmap.specs.declared.Wall.TheVariants as wall
@@ -46,16 +46,16 @@ side_tested job ls c k d = side_named ls (checked job ls (limited c)) k d
 
 -- L3a, L3c: done, with the plan's counts
 abbrev pub why_by : Answer → Reason → WhyAnswer
-why_by (answer.Refused e) r = why.Refused e
-why_by (answer.Done c) r = why.Because c r
+why_by (Err e) r = why.Refused e
+why_by (Ok c) r = why.Because c r
 
 abbrev pub why_told : HeightMap → Lists → ℕ → ℕ → WhyAnswer
 why_told job ls k d = why_by (side_answer job ls k d) (reason_of job ls.grid k d)
 
 -- L3b, L3c: the plan's refusals, then 6 for a face that is not there; done, with the plan's counts
 abbrev pub which_by : Answer → Name → WhichAnswer
-which_by (answer.Refused e) n = which.Refused e
-which_by (answer.Done c) n = which.Named c n
+which_by (Err e) n = which.Refused e
+which_by (Ok c) n = which.Named c n
 
 abbrev pub which_told : HeightMap → Lists → ℕ → WhichAnswer
 which_told job ls i = which_by (numbered job ls i) (name_at job ls.grid i)

@@ -117,8 +117,8 @@ fn why_by(answer: Answer, reason: Reason) -> WhyAnswer
     ensures { result ≡ why_by answer reason }
 {
     match answer {
-        Answer::Refused(refusal) => WhyAnswer::Refused(refusal),
-        Answer::Done(counts) => WhyAnswer::Because(counts, reason),
+        Err(refusal) => WhyAnswer::Refused(refusal),
+        Ok(counts) => WhyAnswer::Because(counts, reason),
     }
 }
 
@@ -126,8 +126,8 @@ fn which_by(answer: Answer, name: Name) -> WhichAnswer
     ensures { result ≡ which_by answer name }
 {
     match answer {
-        Answer::Refused(refusal) => WhichAnswer::Refused(refusal),
-        Answer::Done(counts) => WhichAnswer::Named(counts, name),
+        Err(refusal) => WhichAnswer::Refused(refusal),
+        Ok(counts) => WhichAnswer::Named(counts, name),
     }
 }
 

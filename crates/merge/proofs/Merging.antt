@@ -9,8 +9,8 @@ use lib.Seq.{length-take-le}
 use native.Mathlib.Omega.{arith}
 use Rattle.face.specs.declared.triangle.Counts.{Counts}
 use Rattle.answer.specs.declared.answer.Refusal.TheVariants.{Shape, Index}
-use Rattle.answer.specs.declared.answer.Answer.{Answer}
-use Rattle.answer.specs.declared.answer.Answer.TheVariants.{Done, Refused}
+use Rattle.answer.specs.Answers.{Answer}
+use Rattle.std.specs.Prelude.{Ok, Err}
 use Rattle.answer.specs.Answers.{Roomy, given, limited, roomed}
 use Rattle.answer.specs.Checks.{every, below}
 use Rattle.answer.proofs.Laws.{every-at, given-done, done-limited, roomed-done}
@@ -28,7 +28,7 @@ pub record Merge (s : Counts) (sv sn st : ℕ) (si : List ℕ) (t : Counts) (v n
   pub room : Roomy (also t s) v n u i
 
 module _ (s : Counts) (sv sn st : ℕ) (si : List ℕ) (t : Counts) (v n u i : ℕ) (d : Counts) where
-  pub merge-done : merge_tested s sv sn st si t v n u i ≡ Done d → (also t s ≡ d) × Merge s sv sn st si t v n u i
+  pub merge-done : merge_tested s sv sn st si t v n u i ≡ Ok d → (also t s ≡ d) × Merge s sv sn st si t v n u i
   merge-done e =
       let p = given-done _ _ _ e in
       let q = given-done _ _ _ p.1 in
@@ -57,14 +57,14 @@ module _ (s : Counts) (sv sn st : ℕ) (si : List ℕ) (t : Counts) (v n u i : �
   abbrev tests : Answer
   tests = given (every (below s.vertices.0) (take s.indices.0 si)) Index (roomed (limited (also t s)) v n u i)
 
-  pub source-short : holds_counts s sv sn st (length si) ≡ false → Refused Shape ≡ merge_tested s sv sn st si t v n u i
+  pub source-short : holds_counts s sv sn st (length si) ≡ false → Err Shape ≡ merge_tested s sv sn st si t v n u i
   source-short e = sym (ap (λ (x : Bool). given (x && holds_counts t v n u i) Shape tests) e)
 
   after-source : holds_counts s sv sn st (length si) ≡ true → (y : Bool) → holds_counts t v n u i ≡ y
       → given y Shape (given (every (below s.vertices.0) (take s.indices.0 si)) Index (roomed (limited (also t s)) v n u i)) ≡ merge_tested s sv sn st si t v n u i
   after-source e y f = sym (ap₂ (λ (p q : Bool). given (p && q) Shape tests) e f)
 
-  pub target-short : holds_counts s sv sn st (length si) ≡ true → holds_counts t v n u i ≡ false → Refused Shape ≡ merge_tested s sv sn st si t v n u i
+  pub target-short : holds_counts s sv sn st (length si) ≡ true → holds_counts t v n u i ≡ false → Err Shape ≡ merge_tested s sv sn st si t v n u i
   target-short e f = after-source e false f
 
   pub own-decide : holds_counts s sv sn st (length si) ≡ true → holds_counts t v n u i ≡ true → (z : Bool) → every (below s.vertices.0) (take s.indices.0 si) ≡ z
@@ -84,7 +84,7 @@ pub record Appending (s : Counts) (S : Buffers) (t : Counts) (T : Buffers) : Typ
   pub ri : t.indices.0 + length (take s.indices.0 S.indices) ≤ length T.indices
   pub own : (k : ℕ) → k < length (take s.indices.0 S.indices) → t.vertices.0 + get_or (take s.indices.0 S.indices) k 0 < 65536
 
-pub appending : (s : Counts) (S : Buffers) (t : Counts) (T : Buffers) (d : Counts) → merge_answer s S t T ≡ Done d → Appending s S t T
+pub appending : (s : Counts) (S : Buffers) (t : Counts) (T : Buffers) (d : Counts) → merge_answer s S t T ≡ Ok d → Appending s S t T
 appending s S t T d e =
     let w = (merge-done s (length S.vertices) (length S.normals) (length S.uvs) S.indices t (length T.vertices) (length T.normals) (length T.uvs) (length T.indices) d e).1 in
     let a = length-take-le (3 * s.vertices.0) S.vertices w.source.vertices in
@@ -104,7 +104,7 @@ appending s S t T d e =
       own = λ k l. omega (arith, w.own k l, w.limit);
     }
 
-pub merged-counts : (s : Counts) (S : Buffers) (t : Counts) (T : Buffers) (d : Counts) → merge_answer s S t T ≡ Done d → merge_answer s S t T ≡ Done (also t s)
+pub merged-counts : (s : Counts) (S : Buffers) (t : Counts) (T : Buffers) (d : Counts) → merge_answer s S t T ≡ Ok d → merge_answer s S t T ≡ Ok (also t s)
 merged-counts s S t T d e =
     let w = merge-done s (length S.vertices) (length S.normals) (length S.uvs) S.indices t (length T.vertices) (length T.normals) (length T.uvs) (length T.indices) d e in
-    e ∙ ap Done (sym w.0)
+    e ∙ ap Ok (sym w.0)

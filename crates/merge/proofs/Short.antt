@@ -10,7 +10,7 @@ use Rattle.face.specs.declared.triangle.Counts.{Counts}
 use Rattle.answer.specs.declared.answer.Buffer.{Buffer}
 use Rattle.answer.specs.declared.answer.Buffer.TheVariants.{Vertices, Normals, Uvs, Indices}
 use Rattle.answer.specs.declared.answer.Refusal.TheVariants.{Room}
-use Rattle.answer.specs.declared.answer.Answer.TheVariants.{Done, Refused}
+use Rattle.std.specs.Prelude.{Ok, Err}
 use Rattle.answer.specs.Answers.{need_for, Roomy, FirstShort, Lengthened, Past}
 use Rattle.answer.proofs.Laws.{limited-done, same_or_not, short-first, first_short, past}
 use Rattle.buffers.specs.Mesh.{also}
@@ -22,7 +22,7 @@ use Rattle.merge.specs.Merge.{Mergeable, merge_answer}
 use Rattle.merge.proofs.Merging.{own-decide}
 
 -- the room alone is left to test
-merge-roomed : (s : Counts) (S : Buffers) (t : Counts) (T : Buffers) → Mergeable s S t T → merge_answer s S t T ≡ roomed_in T (Done (also t s))
+merge-roomed : (s : Counts) (S : Buffers) (t : Counts) (T : Buffers) → Mergeable s S t T → merge_answer s S t T ≡ roomed_in T (Ok (also t s))
 merge-roomed s S t T m =
     sym (own-decide s _ _ _ S.indices t _ _ _ _ m.source m.target true m.own)
     ∙ ap (roomed_in T) (limited-done (also t s) m.limit)
@@ -56,7 +56,7 @@ module _ (s : Counts) (S : Buffers) (t : Counts) (T : Buffers) (m : Mergeable s 
 
   -- L1: the first short buffer and its need; with that one at its need the merge is done, or refused for a later one
   module _ (b : Buffer) (f : FirstShort (also t s) (length_in T) b) where
-    pub first-merge : merge_answer s S t T ≡ Refused (Room b (need_for b (also t s)))
+    pub first-merge : merge_answer s S t T ≡ Err (Room b (need_for b (also t s)))
     first-merge = merge-roomed s S t T m ∙ first_short (also t s) (length_in T) b f m.limit
 
     pub past-merge : (U : Buffers) → Lengthened b (need_for b (also t s)) (length_in T) (length_in U) → Past (also t s) (merge_answer s S t U) b

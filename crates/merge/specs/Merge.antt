@@ -2,7 +2,7 @@
 use Rattle.std.specs.Prelude.{◌≡◌, ℕ, ◌+◌, ◌*◌, ◌≤◌, true, ◌&&◌, List, map, length, take}
 use Rattle.face.specs.declared.triangle.Counts.{Counts}
 use Rattle.answer.specs.declared.answer.Refusal.TheVariants.{Shape, Index}
-use Rattle.answer.specs.declared.answer.Answer.{Answer}
+use Rattle.answer.specs.Answers.{Answer}
 use Rattle.answer.specs.Answers.{given, limited, roomed, after}
 use Rattle.answer.specs.Checks.{every, below}
 use Rattle.buffers.specs.Mesh.{also}

@@ -29,10 +29,10 @@ fn answer_of(
     ensures { result ≡ merge_tested source svertices snormals suvs sindices.now target vertices normals uvs indices }
 {
     if !mesh::stored::holds_counts(source, svertices, snormals, suvs, sindices.len()) {
-        return Answer::Refused(Refusal::Shape);
+        return Err(Refusal::Shape);
     }
     if !mesh::stored::holds_counts(target, vertices, normals, uvs, indices) {
-        return Answer::Refused(Refusal::Shape);
+        return Err(Refusal::Shape);
     }
     let n = source.indices.0;
     if answer::check::all_below(source.vertices.0, &sindices[..n]) {
@@ -48,7 +48,7 @@ fn answer_of(
             indices,
         );
     }
-    Answer::Refused(Refusal::Index)
+    Err(Refusal::Index)
 }
 
 fn copy(buffer: &mut [f32], at: usize, numbers: &[f32])
@@ -134,13 +134,13 @@ pub fn merge(
         indices.len(),
     );
     match answer {
-        Answer::Refused(why) => Answer::Refused(why),
-        Answer::Done(counts) => {
+        Err(why) => Err(why),
+        Ok(counts) => {
             append(
                 source, svertices, snormals, suvs, sindices, target, vertices, normals, uvs,
                 indices,
             );
-            Answer::Done(counts)
+            Ok(counts)
         }
     }
 }

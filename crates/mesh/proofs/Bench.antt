@@ -6,7 +6,7 @@ use Rattle.face.specs.Lists.{each}
 use Rattle.face.specs.Vec.{zero2, zero3}
 use Rattle.face.specs.Triangles.{counts, no_triangle}
 use Rattle.answer.specs.declared.answer.Refusal.TheVariants.{Shape, Range, Limit, NoFace, Empty}
-use Rattle.answer.specs.declared.answer.Answer.TheVariants.{Done, Refused}
+use Rattle.std.specs.Prelude.{Ok, Err}
 use Rattle.answer.specs.Answers.{limited, named}
 use Rattle.buffers.specs.Mesh.{Mesh, none}
 use Rattle.buffers.specs.Laying.{four}
@@ -14,20 +14,20 @@ use Rattle.mesh.specs.Jobs.{faces_of, window_by, window_of}
 use Rattle.mesh.specs.Stored.{stored_answer, centroid_of}
 
 -- ---- R14: 1 before 2, 2 before 4, 4, 8
-pub shape-before-range : stored_answer (counts 65537 0) false 0 0 0 0 ≡ Refused Shape
+pub shape-before-range : stored_answer (counts 65537 0) false 0 0 0 0 ≡ Err Shape
 shape-before-range = refl
 
-pub range-before-limit : stored_answer (counts 65537 0) false 196611 196611 131074 0 ≡ Refused Range
+pub range-before-limit : stored_answer (counts 65537 0) false 196611 196611 131074 0 ≡ Err Range
 range-before-limit = refl
 
-pub past-the-limit : stored_answer (counts 65537 0) true 196611 196611 131074 0 ≡ Refused Limit
+pub past-the-limit : stored_answer (counts 65537 0) true 196611 196611 131074 0 ≡ Err Limit
 past-the-limit = refl
 
-pub at-the-limit : stored_answer (counts 65536 5) true 196608 196608 131072 9 ≡ Done (counts 65536 5)
+pub at-the-limit : stored_answer (counts 65536 5) true 196608 196608 131072 9 ≡ Ok (counts 65536 5)
 at-the-limit = refl
 
 -- R8, R10: no vertices have no middle, and what comes beside the refusal is +0
-pub no_middle : centroid_of (counts 0 0) (four (nan ∷ []) [] [] []) ≡ record { answer = Refused Empty; centroid = zero3 }
+pub no_middle : centroid_of (counts 0 0) (four (nan ∷ []) [] [] []) ≡ record { answer = Err Empty; centroid = zero3 }
 no_middle = refl
 
 -- ---- a face of four vertices and two triangles, then one of six and four: end to end, then 6 with every number 0
@@ -38,15 +38,15 @@ abbrev two : List Mesh
 two = face_with 4 2 ∷ face_with 6 4 ∷ []
 
 pub two-windows :
-    (faces_of (λ a. a) two ≡ record { answer = Done (counts 10 18); faces = 2 })
-    × (window_of (λ a. a) two 0 ≡ record { answer = Done (counts 10 18); start = counts 0 0; size = counts 4 6 })
-    × (window_of (λ a. a) two 1 ≡ record { answer = Done (counts 10 18); start = counts 4 6; size = counts 6 12 })
-    × (window_of (λ a. a) two 2 ≡ record { answer = Refused NoFace; start = none; size = none })
+    (faces_of (λ a. a) two ≡ record { answer = Ok (counts 10 18); faces = 2 })
+    × (window_of (λ a. a) two 0 ≡ record { answer = Ok (counts 10 18); start = counts 0 0; size = counts 4 6 })
+    × (window_of (λ a. a) two 1 ≡ record { answer = Ok (counts 10 18); start = counts 4 6; size = counts 6 12 })
+    × (window_of (λ a. a) two 2 ≡ record { answer = Err NoFace; start = none; size = none })
 two-windows = (refl, refl, refl, refl)
 
 -- the plan's refusals come before 6, and no face is counted beside one
 pub plan-before-face :
-    (faces_of (λ a. Refused Range) two ≡ record { answer = Refused Range; faces = 0 })
-    × (window_of (λ a. Refused Range) two 2 ≡ record { answer = Refused Range; start = none; size = none })
-    × (window_by (named (limited (counts 65537 0)) 2 2) (counts 10 18) (counts 4 6) ≡ record { answer = Refused Limit; start = none; size = none })
+    (faces_of (λ a. Err Range) two ≡ record { answer = Err Range; faces = 0 })
+    × (window_of (λ a. Err Range) two 2 ≡ record { answer = Err Range; start = none; size = none })
+    × (window_by (named (limited (counts 65537 0)) 2 2) (counts 10 18) (counts 4 6) ≡ record { answer = Err Limit; start = none; size = none })
 plan-before-face = (refl, refl, refl)

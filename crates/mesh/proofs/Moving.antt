@@ -9,8 +9,8 @@ use Rattle.face.specs.declared.triangle.Counts.{Counts}
 use Rattle.face.specs.Lists.{each, chain}
 use Rattle.face.specs.Vec.{middle}
 use Rattle.face.proofs.Filling.{length-each}
-use Rattle.answer.specs.declared.answer.Answer.{Answer}
-use Rattle.answer.specs.declared.answer.Answer.TheVariants.{Done, Refused}
+use Rattle.answer.specs.Answers.{Answer}
+use Rattle.std.specs.Prelude.{Ok, Err}
 use Rattle.answer.specs.declared.answer.Refusal.{Refusal}
 use Rattle.answer.specs.declared.answer.Refusal.TheVariants.{Shape, Range, Empty}
 use Rattle.answer.specs.Answers.{Roomy, limited, after, value_of}
@@ -94,14 +94,14 @@ holds-room c v n t i e =
     both _ _ e (λ p e₁. both _ _ e₁ (λ q e₂. both _ _ e₂ (λ r s.
     record { vertices = leb-true _ _ p; normals = leb-true _ _ q; uvs = leb-true _ _ r; indices = leb-true _ _ s })))
 
-pub not_empty-done : (a : Answer) (d : Counts) → not_empty a ≡ Done d → (a ≡ Done d) × (0 < d.vertices.0)
-not_empty-done (Refused e) d p = not_done p
-not_empty-done (Done c) d p =
-    let h = given-done (ltb 0 c.vertices.0) Empty (Done c) p in
+pub not_empty-done : (a : Answer) (d : Counts) → not_empty a ≡ Ok d → (a ≡ Ok d) × (0 < d.vertices.0)
+not_empty-done (Err e) d p = not_done p
+not_empty-done (Ok c) d p =
+    let h = given-done (ltb 0 c.vertices.0) Empty (Ok c) p in
     (h.1, rw (same-counts h.1) at (ltb-true 0 c.vertices.0 h.0))
 
 module _ (c : Counts) (B : Buffers) where
-  pub stored-done : (good : Bool) (d : Counts) → answer_of c good B ≡ Done d → Kept c d B
+  pub stored-done : (good : Bool) (d : Counts) → answer_of c good B ≡ Ok d → Kept c d B
   stored-done good d e =
       let h = given-done (holds_counts c _ _ _ _) Shape _ e in
       let l = done-limited c d (given-done good Range (limited c) h.1).1 in
@@ -112,21 +112,21 @@ module _ (c : Counts) (B : Buffers) where
     told : {good : Bool} {a x : Answer} → a ≡ x → a ≡ answer_of c good B → good ≡ ok → x ≡ answer_of c ok B
     told k e g = sym k ∙ e ∙ ap (λ (z : Bool). answer_of c z B) g
 
-    pub kept : {good : Bool} {a : Answer} {d : Counts} → a ≡ Done d → a ≡ answer_of c good B → good ≡ ok → Kept c d B
+    pub kept : {good : Bool} {a : Answer} {d : Counts} → a ≡ Ok d → a ≡ answer_of c good B → good ≡ ok → Kept c d B
     kept {good} {a} {d} k e g = stored-done ok d (sym (told k e g))
 
     -- buffers for which new is what is to be written: as they were after a refusal, else so written
-    pub left : (new : Counts → Buffers) {good : Bool} {a : Answer} {e : Refusal} → a ≡ Refused e → a ≡ answer_of c good B → good ≡ ok → (Refused e ≡ answer_of c ok B) × (B ≡ after (answer_of c ok B) B (new c))
+    pub left : (new : Counts → Buffers) {good : Bool} {a : Answer} {e : Refusal} → a ≡ Err e → a ≡ answer_of c good B → good ≡ ok → (Err e ≡ answer_of c ok B) × (B ≡ after (answer_of c ok B) B (new c))
     left new k e g = let q = told k e g in (q, rw (← q))
 
-    pub moved : (new : Counts → Buffers) {good : Bool} {a : Answer} {d : Counts} {x : Buffers} → a ≡ Done d → a ≡ answer_of c good B → good ≡ ok → x ≡ new d → (Done d ≡ answer_of c ok B) × (x ≡ after (answer_of c ok B) B (new c))
+    pub moved : (new : Counts → Buffers) {good : Bool} {a : Answer} {d : Counts} {x : Buffers} → a ≡ Ok d → a ≡ answer_of c good B → good ≡ ok → x ≡ new d → (Ok d ≡ answer_of c ok B) × (x ≡ after (answer_of c ok B) B (new c))
     moved new k e g h = let q = told k e g in (q, rw (← q) (h ∙ sym (ap new (kept k e g).same)))
 
   -- ---- the same of a centroid's answer p
   told-centre : {a p x : Answer} → p ≡ x → p ≡ not_empty a → a ≡ answer_of c true B → x ≡ centroid_answer c B
   told-centre k e g = sym k ∙ e ∙ ap not_empty g
 
-  pub kept-centre : {a p : Answer} {d : Counts} → p ≡ Done d → p ≡ not_empty a → a ≡ answer_of c true B → Kept c d B
+  pub kept-centre : {a p : Answer} {d : Counts} → p ≡ Ok d → p ≡ not_empty a → a ≡ answer_of c true B → Kept c d B
   kept-centre {a} {p} {d} k e g = stored-done true d (not_empty-done (answer_of c true B) d (sym (told-centre k e g))).0
 
   -- the centroid beside it: +0 after a refusal, else the middle
@@ -134,10 +134,10 @@ module _ (c : Counts) (B : Buffers) where
     abbrev centre : Answer → C
     centre p = beside p (value_of none p (middle plus none over (each g c.vertices.0)))
 
-    pub no-centre : {a p : Answer} {e : Refusal} → p ≡ Refused e → p ≡ not_empty a → a ≡ answer_of c true B → beside (Refused e) none ≡ centre (centroid_answer c B)
+    pub no-centre : {a p : Answer} {e : Refusal} → p ≡ Err e → p ≡ not_empty a → a ≡ answer_of c true B → beside (Err e) none ≡ centre (centroid_answer c B)
     no-centre k e h = ap centre (told-centre k e h)
 
-    pub centred : {a p : Answer} {d : Counts} {t x : A} → p ≡ Done d → p ≡ not_empty a → a ≡ answer_of c true B → t ≡ foldl plus none (each g d.vertices.0) → x ≡ over t (of_int binary32 (pos d.vertices.0)) → beside (Done d) x ≡ centre (centroid_answer c B)
+    pub centred : {a p : Answer} {d : Counts} {t x : A} → p ≡ Ok d → p ≡ not_empty a → a ≡ answer_of c true B → t ≡ foldl plus none (each g d.vertices.0) → x ≡ over t (of_int binary32 (pos d.vertices.0)) → beside (Ok d) x ≡ centre (centroid_answer c B)
     centred {a} {p} {d} k e h s m =
-        ap (beside (Done d)) (mean-middle plus none over g d.vertices.0 _ _ s m ∙ sym (ap (λ (w : Counts). middle plus none over (each g w.vertices.0)) (kept-centre k e h).same))
+        ap (beside (Ok d)) (mean-middle plus none over g d.vertices.0 _ _ s m ∙ sym (ap (λ (w : Counts). middle plus none over (each g w.vertices.0)) (kept-centre k e h).same))
         ∙ ap centre (told-centre k e h)

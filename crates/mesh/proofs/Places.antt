@@ -2,8 +2,8 @@
 use Rattle.std.proofs.Common.{◌≡◌, ℕ, zero, suc, ◌<◌, Bool, List, [], ◌∷◌, map, length, get_or, sym, refl, ap, ◌∙◌, ap₂, arith, lt-ltb}
 use Rattle.face.specs.declared.triangle.Counts.{Counts}
 use Rattle.answer.specs.declared.answer.Refusal.TheVariants.{NoFace}
-use Rattle.answer.specs.declared.answer.Answer.{Answer}
-use Rattle.answer.specs.declared.answer.Answer.TheVariants.{Done, Refused}
+use Rattle.answer.specs.Answers.{Answer}
+use Rattle.std.specs.Prelude.{Ok, Err}
 use Rattle.answer.specs.Answers.{counts_of, given, limited, named}
 use Rattle.answer.proofs.Laws.{done-limited, named-done}
 use Rattle.buffers.specs.Mesh.{Mesh, none, size_of, measure, start_of}
@@ -12,13 +12,13 @@ use Rattle.buffers.proofs.Windows.{also-none}
 use Rattle.mesh.specs.Jobs.{planned_of, faces_by, window_by, faces_of, window_of}
 
 -- ---- two ways to tell the same: what they say of a done answer decides
-pub faces-same : (a : Answer) (m n : ℕ) → ((c : Counts) → a ≡ Done c → m ≡ n) → faces_by a m ≡ faces_by a n
-faces-same (Refused e) m n h = refl
-faces-same (Done c) m n h = ap (faces_by (Done c)) (h c refl)
+pub faces-same : (a : Answer) (m n : ℕ) → ((c : Counts) → a ≡ Ok c → m ≡ n) → faces_by a m ≡ faces_by a n
+faces-same (Err e) m n h = refl
+faces-same (Ok c) m n h = ap (faces_by (Ok c)) (h c refl)
 
-pub window_same : (a : Answer) (s t y z : Counts) → ((c : Counts) → a ≡ Done c → (s ≡ t) × (y ≡ z)) → window_by a s y ≡ window_by a t z
-window_same (Refused e) s t y z h = refl
-window_same (Done c) s t y z h = let r = h c refl in ap₂ (window_by (Done c)) r.0 r.1
+pub window_same : (a : Answer) (s t y z : Counts) → ((c : Counts) → a ≡ Ok c → (s ≡ t) × (y ≡ z)) → window_by a s y ≡ window_by a t z
+window_same (Err e) s t y z h = refl
+window_same (Ok c) s t y z h = let r = h c refl in ap₂ (window_by (Ok c)) r.0 r.1
 
 -- the mesh of a number is that of its name
 pub face-named : {N : Type 0} (f : N → Mesh) (ns : List N) (k : ℕ) (z : N) → k < length ns → face_at (map f ns) k ≡ f (get_or ns k z)
@@ -27,13 +27,13 @@ face-named f (n ∷ ns) zero z h = refl
 face-named f (n ∷ ns) (suc k) z h = face-named f ns k z (let g : suc k < suc (length ns) = h in omega arith)
 
 -- ---- the one face of a job is all of it
-module _ (checked : Answer → Answer) (m : Mesh) (passes : (a : Answer) (d : Counts) → checked a ≡ Done d → a ≡ Done d) where
+module _ (checked : Answer → Answer) (m : Mesh) (passes : (a : Answer) (d : Counts) → checked a ≡ Ok d → a ≡ Ok d) where
   pub alone-window : (k : ℕ) (a : Answer) → a ≡ named (planned_of checked (m ∷ [])) k 1 → window_by a none (counts_of a) ≡ window_of checked (m ∷ []) k
   alone-window k a e =
       window_same a none (start_of (m ∷ []) k) (counts_of a) (size_of (face_at (m ∷ []) k)) (λ c d. here c d)
       ∙ ap (λ (x : Answer). window_by x (start_of (m ∷ []) k) (size_of (face_at (m ∷ []) k))) e
     where
-      here : (c : Counts) → a ≡ Done c → (none ≡ start_of (m ∷ []) k) × (counts_of a ≡ size_of (face_at (m ∷ []) k))
+      here : (c : Counts) → a ≡ Ok c → (none ≡ start_of (m ∷ []) k) × (counts_of a ≡ size_of (face_at (m ∷ []) k))
       here c d =
           let n = named-done (planned_of checked (m ∷ [])) c k 1 (sym e ∙ d) in
           let z : k ≡ 0 = omega (arith, n.1) in
@@ -44,13 +44,13 @@ module _ (checked : Answer → Answer) (m : Mesh) (passes : (a : Answer) (d : Co
 
 -- ---- of any job: a window is done exactly where the plan is and the number is a face's
 module _ (checked : Answer → Answer) (fs : List Mesh) (c : Counts) where
-  pub told-faces : planned_of checked fs ≡ Done c → faces_of checked fs ≡ record { answer = Done c; faces = length fs }
+  pub told-faces : planned_of checked fs ≡ Ok c → faces_of checked fs ≡ record { answer = Ok c; faces = length fs }
   told-faces p = ap (λ (a : Answer). faces_by a (length fs)) p
 
-  pub told-window : planned_of checked fs ≡ Done c → (k : ℕ) → k < length fs → window_of checked fs k ≡ record { answer = Done c; start = start_of fs k; size = size_of (face_at fs k) }
+  pub told-window : planned_of checked fs ≡ Ok c → (k : ℕ) → k < length fs → window_of checked fs k ≡ record { answer = Ok c; start = start_of fs k; size = size_of (face_at fs k) }
   told-window p k h =
       ap (λ (a : Answer). window_by a (start_of fs k) (size_of (face_at fs k)))
-      (ap (λ (a : Answer). named a k (length fs)) p ∙ ap (λ (x : Bool). given x NoFace (Done c)) (lt-ltb k (length fs) h))
+      (ap (λ (a : Answer). named a k (length fs)) p ∙ ap (λ (x : Bool). given x NoFace (Ok c)) (lt-ltb k (length fs) h))
 
-  pub done-window : (k : ℕ) → (window_of checked fs k).answer ≡ Done c → (planned_of checked fs ≡ Done c) × (k < length fs)
+  pub done-window : (k : ℕ) → (window_of checked fs k).answer ≡ Ok c → (planned_of checked fs ≡ Ok c) × (k < length fs)
   done-window k e = named-done (planned_of checked fs) c k (length fs) e

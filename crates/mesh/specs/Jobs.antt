@@ -5,8 +5,8 @@ use Rattle.std.specs.Prelude.{◌≡◌, ℕ, List, [], ◌∷◌, length}
 use Rattle.face.specs.declared.triangle.Counts.{Counts}
 use Rattle.answer.specs.declared.answer.Buffer.{Buffer}
 use Rattle.answer.specs.declared.answer.Refusal.TheVariants.{Room}
-use Rattle.answer.specs.declared.answer.Answer.{Answer}
-use Rattle.answer.specs.declared.answer.Answer.TheVariants.{Refused}
+use Rattle.answer.specs.Answers.{Answer}
+use Rattle.std.specs.Prelude.{Err}
 use Rattle.answer.specs.Answers.{limited, named, roomed, after, value_of, lengths, need_for, Roomy, Short, FirstShort}
 use Rattle.buffers.specs.Mesh.{Mesh, none, size_of, measure, start_of}
 use Rattle.buffers.specs.Laying.{Buffers, lay_all, lay_one}
@@ -37,7 +37,7 @@ length_in B = lengths (length B.vertices) (length B.normals) (length B.uvs) (len
 pub record RefusedRoom (c : Counts) (B : Buffers) (a : Answer) : Type 0 where
   pub buffer : Buffer
   pub first : FirstShort c (length_in B) buffer
-  pub refused : a ≡ Refused (Room buffer (need_for buffer c))
+  pub refused : a ≡ Err (Room buffer (need_for buffer c))
 
 -- R11: .. then 51 to 54
 abbrev pub whole_of : (Answer → Answer) → List Mesh → Buffers → Answer

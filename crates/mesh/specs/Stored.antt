@@ -8,8 +8,8 @@ use Rattle.face.specs.declared.triangle.Counts.{Counts}
 use Rattle.face.specs.Lists.{each, chain}
 use Rattle.face.specs.Vec.{v2, v3, times, plus3, over2, over3, middle2, middle3}
 use Rattle.answer.specs.declared.answer.Refusal.TheVariants.{Shape, Range, Empty}
-use Rattle.answer.specs.declared.answer.Answer.{Answer}
-use Rattle.answer.specs.declared.answer.Answer.TheVariants.{Done, Refused}
+use Rattle.answer.specs.Answers.{Answer}
+use Rattle.std.specs.Prelude.{Ok, Err}
 use Rattle.answer.specs.Answers.{given, limited, after, value_of2, value_of3}
 use Rattle.answer.specs.Checks.{in_range2, in_range3}
 use Rattle.buffers.specs.Laying.{Buffers, four, three, two, laid}
@@ -29,8 +29,8 @@ answer_of c good B = stored_answer c good (length B.vertices) (length B.normals)
 
 -- R8, after what stands before it
 abbrev pub not_empty : Answer → Answer
-not_empty (Refused e) = Refused e
-not_empty (Done c) = given (nat_lt 0 c.vertices.0) Empty (Done c)
+not_empty (Err e) = Err e
+not_empty (Ok c) = given (nat_lt 0 c.vertices.0) Empty (Ok c)
 
 -- ---- the points and uvs of a buffer, by the place of their first number
 

@@ -60,21 +60,21 @@ fn answer_of(
         if good {
             return answer::answer::limit(counts);
         }
-        return Answer::Refused(Refusal::Range);
+        return Err(Refusal::Range);
     }
-    Answer::Refused(Refusal::Shape)
+    Err(Refusal::Shape)
 }
 
 fn not_empty(answer: Answer) -> Answer
     ensures { result ≡ not_empty answer }
 {
     match answer {
-        Answer::Refused(why) => Answer::Refused(why),
-        Answer::Done(counts) => {
+        Err(why) => Err(why),
+        Ok(counts) => {
             if counts.vertices.0 > 0 {
-                return Answer::Done(counts);
+                return Ok(counts);
             }
-            Answer::Refused(Refusal::Empty)
+            Err(Refusal::Empty)
         }
     }
 }
@@ -219,10 +219,10 @@ pub fn scale(
         indices.len(),
     );
     match answer {
-        Answer::Refused(why) => Answer::Refused(why),
-        Answer::Done(done) => {
+        Err(why) => Err(why),
+        Ok(done) => {
             stretch_points(vertices, done.vertices.0, by);
-            Answer::Done(done)
+            Ok(done)
         }
     }
 }
@@ -249,10 +249,10 @@ pub fn offset(
         indices.len(),
     );
     match answer {
-        Answer::Refused(why) => Answer::Refused(why),
-        Answer::Done(done) => {
+        Err(why) => Err(why),
+        Ok(done) => {
             shift_points(vertices, done.vertices.0, by);
-            Answer::Done(done)
+            Ok(done)
         }
     }
 }
@@ -279,10 +279,10 @@ pub fn texture_scale(
         indices.len(),
     );
     match answer {
-        Answer::Refused(why) => Answer::Refused(why),
-        Answer::Done(done) => {
+        Err(why) => Err(why),
+        Ok(done) => {
             stretch_uvs(uvs, done.vertices.0, by);
-            Answer::Done(done)
+            Ok(done)
         }
     }
 }
@@ -329,19 +329,19 @@ pub fn centroid(
         indices.len(),
     ));
     match answer {
-        Answer::Refused(why) => CentroidAnswer {
-            answer: Answer::Refused(why),
+        Err(why) => CentroidAnswer {
+            answer: Err(why),
             centroid: Vec3 {
                 x: 0.0,
                 y: 0.0,
                 z: 0.0,
             },
         },
-        Answer::Done(done) => {
+        Ok(done) => {
             let m = done.vertices.0;
             let mean = mean3(sum_points(vertices, m), m);
             CentroidAnswer {
-                answer: Answer::Done(done),
+                answer: Ok(done),
                 centroid: mean,
             }
         }
@@ -367,15 +367,15 @@ pub fn uv_centroid(
         indices.len(),
     ));
     match answer {
-        Answer::Refused(why) => UvCentroidAnswer {
-            answer: Answer::Refused(why),
+        Err(why) => UvCentroidAnswer {
+            answer: Err(why),
             centroid: Vec2 { x: 0.0, y: 0.0 },
         },
-        Answer::Done(done) => {
+        Ok(done) => {
             let m = done.vertices.0;
             let mean = mean2(sum_uvs(uvs, m), m);
             UvCentroidAnswer {
-                answer: Answer::Done(done),
+                answer: Ok(done),
                 centroid: mean,
             }
         }

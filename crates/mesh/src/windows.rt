@@ -34,12 +34,12 @@ pub fn faces_if_done(answer: Answer, faces: usize) -> Faces
     ensures { result ≡ faces_by answer faces }
 {
     match answer {
-        Answer::Refused(why) => Faces {
-            answer: Answer::Refused(why),
+        Err(why) => Faces {
+            answer: Err(why),
             faces: 0,
         },
-        Answer::Done(counts) => Faces {
-            answer: Answer::Done(counts),
+        Ok(counts) => Faces {
+            answer: Ok(counts),
             faces: faces,
         },
     }
@@ -49,13 +49,13 @@ pub fn window_if_done(answer: Answer, start: Counts, size: Counts) -> Window
     ensures { result ≡ window_by answer start size }
 {
     match answer {
-        Answer::Refused(why) => Window {
-            answer: Answer::Refused(why),
+        Err(why) => Window {
+            answer: Err(why),
             start: zero(),
             size: zero(),
         },
-        Answer::Done(counts) => Window {
-            answer: Answer::Done(counts),
+        Ok(counts) => Window {
+            answer: Ok(counts),
             start: start,
             size: size,
         },

@@ -7,8 +7,8 @@ use native.Mathlib.Omega.{arith}
 use Rattle.face.specs.declared.triangle.Counts.{Counts}
 use Rattle.face.specs.Triangles.{inset_counts}
 use Rattle.answer.specs.declared.answer.Refusal.TheVariants.{Shape, Range}
-use Rattle.answer.specs.declared.answer.Answer.{Answer}
-use Rattle.answer.specs.declared.answer.Answer.TheVariants.{Done, Refused}
+use Rattle.answer.specs.Answers.{Answer}
+use Rattle.std.specs.Prelude.{Ok, Err}
 use Rattle.answer.specs.Answers.{given, limited, after}
 use Rattle.answer.proofs.Laws.{given-done}
 use Rattle.buffers.specs.Mesh.{Mesh, none, size_of, measure}
@@ -47,21 +47,21 @@ module _ (job : Plane) (ls : Lists) where
       let m = hexagon_mesh o.inset (cap_hexagon ls.corners o) in
       ap limited (sym (alone-size (plane_mesh job ls) ∙ standing-size (stand_of job) m ∙ hexagon-size o.inset (cap_hexagon ls.corners o)))
 
-  pub misshapen : shape_of job ls ≡ false → Refused Shape ≡ planned job ls
+  pub misshapen : shape_of job ls ≡ false → Err Shape ≡ planned job ls
   misshapen e = sym (ap (λ (x : Bool). given x Shape (given (range_of job ls) Range (limited (measure (plane_faces job ls))))) e)
 
   pub range-decides : shape_of job ls ≡ true → (y : Bool) → range_of job ls ≡ y → given y Range (limited (measure (plane_faces job ls))) ≡ planned job ls
   range-decides e y f = sym (ap₂ (λ (p q : Bool). given p Shape (given q Range (limited (measure (plane_faces job ls))))) e f)
 
   -- ---- what a done answer says: there is room, and the number is the one face's
-  pub passes : (a : Answer) (d : Counts) → checked job ls a ≡ Done d → a ≡ Done d
+  pub passes : (a : Answer) (d : Counts) → checked job ls a ≡ Ok d → a ≡ Ok d
   passes a d e = (given-done (range_of job ls) Range a (given-done (shape_of job ls) Shape (given (range_of job ls) Range a) e).1).1
 
   module _ (B : Buffers) where
     -- what a done answer lays decides what is left
-    left : (a : Answer) (C : Buffers) → ((d : Counts) → a ≡ Done d → laid_if_fits (plane_mesh job ls) none B ≡ C) → laid_if_done a (plane_mesh job ls) B ≡ after a B C
-    left (Done d) C h = h d refl
-    left (Refused w) C h = refl
+    left : (a : Answer) (C : Buffers) → ((d : Counts) → a ≡ Ok d → laid_if_fits (plane_mesh job ls) none B ≡ C) → laid_if_done a (plane_mesh job ls) B ≡ after a B C
+    left (Ok d) C h = h d refl
+    left (Err w) C h = refl
 
     -- by the whole build's answer it is what the build leaves, and by a face call's what that leaves
     pub whole-left : laid_if_done (whole_answer job ls B) (plane_mesh job ls) B ≡ built job ls B

@@ -1,7 +1,7 @@
 -- A plane, a job of one face (plane_builder.rs); B5 to R17 are rows of docs/TRACE.md. Definitions only.
 use Rattle.std.specs.Prelude.{ℕ, Bool, false, ◌&&◌, List, [], ◌∷◌, length, Float}
 use Rattle.answer.specs.declared.answer.Refusal.TheVariants.{Shape, Range}
-use Rattle.answer.specs.declared.answer.Answer.{Answer}
+use Rattle.answer.specs.Answers.{Answer}
 use Rattle.answer.specs.Answers.{given, after}
 use Rattle.answer.specs.Checks.{in_range2, all_in_range, exactly, names_option}
 use Rattle.placement.specs.declared.options.FaceOptions.{FaceOptions}

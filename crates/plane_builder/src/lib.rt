@@ -66,9 +66,9 @@ pub fn plan(job: Plane, corners: &[f32], numbers: &[f32], marks: &[u8]) -> Answe
             let inset = o.inset;
             return answer::answer::limit(face::triangle::hexagon_counts(inset));
         }
-        return Answer::Refused(Refusal::Range);
+        return Err(Refusal::Range);
     }
-    Answer::Refused(Refusal::Shape)
+    Err(Refusal::Shape)
 }
 
 // How many faces the job has, or why it is refused.
@@ -101,8 +101,8 @@ fn put(
     ensures { Become (laid_if_done answer (plane_mesh job (lent corners numbers marks))) vertices normals uvs indices }
 {
     match answer {
-        Answer::Refused(_) => {}
-        Answer::Done(_) => {
+        Err(_) => {}
+        Ok(_) => {
             let s = job.placement;
             let o = placement::options::option_at(numbers, marks, job.option);
             let stand = placement::placement::stand_by(

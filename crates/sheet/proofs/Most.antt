@@ -16,8 +16,8 @@ use Rattle.face.proofs.Laws.{Below}
 use Rattle.answer.specs.declared.answer.Buffer.TheVariants.{Vertices}
 use Rattle.answer.specs.declared.answer.Refusal.{Refusal}
 use Rattle.answer.specs.declared.answer.Refusal.TheVariants.{Room, Sheet}
-use Rattle.answer.specs.declared.answer.Answer.{Answer}
-use Rattle.answer.specs.declared.answer.Answer.TheVariants.{Done, Refused}
+use Rattle.answer.specs.Answers.{Answer}
+use Rattle.std.specs.Prelude.{Ok, Err}
 use Rattle.answer.specs.Answers.{code, told, given}
 use Rattle.answer.proofs.Laws.{coded}
 use Rattle.placement.specs.declared.options.Choice.{Choice}
@@ -114,13 +114,13 @@ column-most job ps cs = go (planned job (ls job ps cs)) refl
     m : Mesh
     m = joined (fs job ps cs)
 
-    done : (c : Counts) (x : Bool) → planned job (ls job ps cs) ≡ Done c → leb c.vertices.0 1024 ≡ x → length (text_for (given x (Room Vertices (told Vertices c)) (Done c)) m) ≤ room
+    done : (c : Counts) (x : Bool) → planned job (ls job ps cs) ≡ Ok c → leb c.vertices.0 1024 ≡ x → length (text_for (given x (Room Vertices (told Vertices c)) (Ok c)) m) ≤ room
     done c true p e = text-most job ps cs (rw (planned-counts job (ls job ps cs) c p) (leb-true _ _ e))
     done c false p e = refusal-fits (Room Vertices (told Vertices c))
 
     go : (a : Answer) → planned job (ls job ps cs) ≡ a → length (text_for (printable a) m) ≤ room
-    go (Refused e) p = refusal-fits e
-    go (Done c) p = done c (leb c.vertices.0 1024) p refl
+    go (Err e) p = refusal-fits e
+    go (Ok c) p = done c (leb c.vertices.0 1024) p refl
 
 either-most : (x : Bool) (a b : List ℕ) → length a ≤ room → length b ≤ room → length (cond x a b) ≤ room
 either-most true a b p q = p

@@ -4,8 +4,8 @@ use mathlib.Core.List.{List}
 use Prim.Native.Nat.{ℕ, ◌<◌}
 use lib.ListN.{length}
 use Rattle.answer.specs.declared.answer.Refusal.TheVariants.{Sheet}
-use Rattle.answer.specs.declared.answer.Answer.{Answer}
-use Rattle.answer.specs.declared.answer.Answer.TheVariants.{Done, Refused}
+use Rattle.answer.specs.Answers.{Answer}
+use Rattle.std.specs.Prelude.{Ok, Err}
 use Rattle.answer.specs.Answers.{code}
 use Rattle.buffers.specs.Mesh.{Mesh, size_of, joined}
 use Rattle.column.specs.declared.Column.{Column}
@@ -16,8 +16,8 @@ use Rattle.sheet.specs.Answering.{column_of, lists_of, printable, flat, text_for
 use Rattle.sheet.proofs.Laws.{mesh-some, refusal-some}
 
 text-some : (a : Answer) (m : Mesh) → 0 < length (text_for a m)
-text-some (Refused e) m = refusal-some (code e)
-text-some (Done c) m = mesh-some (flat m) (size_of m)
+text-some (Err e) m = refusal-some (code e)
+text-some (Ok c) m = mesh-some (flat m) (size_of m)
 
 column-some : (job : Column) (ls : Lists) → 0 < length (column_text job ls)
 unfolding column_text

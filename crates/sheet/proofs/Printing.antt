@@ -13,8 +13,8 @@ use Rattle.face.specs.declared.triangle.Counts.{Counts}
 use Rattle.face.specs.Vec.{f0}
 use Rattle.answer.specs.declared.answer.Refusal.{Refusal}
 use Rattle.answer.specs.declared.answer.Refusal.TheVariants.{Sheet}
-use Rattle.answer.specs.declared.answer.Answer.{Answer}
-use Rattle.answer.specs.declared.answer.Answer.TheVariants.{Done, Refused}
+use Rattle.answer.specs.Answers.{Answer}
+use Rattle.std.specs.Prelude.{Ok, Err}
 use Rattle.answer.specs.Answers.{Roomy, code, limited, room_for}
 use Rattle.answer.proofs.Laws.{done-limited, roomed-done, room-enough, after-done}
 use Rattle.buffers.specs.Mesh.{Mesh, none, size_of, measure, joined}
@@ -50,34 +50,34 @@ blank = four (replicate 3072 f0) (replicate 3072 f0) (replicate 2048 f0) (replic
 pub blank-roomy : For1024 blank
 blank-roomy = record { vertices = length-replicate 3072 f0; normals = length-replicate 3072 f0; uvs = length-replicate 2048 f0; indices = length-replicate {A = ℕ} 4096 0 }
 
-room-1024 : (c : Counts) → FewIn c → room_for c 3072 3072 2048 4096 ≡ printable (Done c)
+room-1024 : (c : Counts) → FewIn c → room_for c 3072 3072 2048 4096 ≡ printable (Ok c)
 room-1024 c f = go (ltb 1024 c.vertices.0) (ltb→lt 1024 c.vertices.0) (nltb→le 1024 c.vertices.0)
   where
-    go : (x : Bool) → (T x → 1024 < c.vertices.0) → (T (not x) → c.vertices.0 ≤ 1024) → room_for c 3072 3072 2048 4096 ≡ printable (Done c)
+    go : (x : Bool) → (T x → 1024 < c.vertices.0) → (T (not x) → c.vertices.0 ≤ 1024) → room_for c 3072 3072 2048 4096 ≡ printable (Ok c)
     go true y z = let h : 1024 < c.vertices.0 = y tt in rw (lt-leb (3 * c.vertices.0) 3072 (omega arith), lt-leb c.vertices.0 1024 h)
     go false y z =
         let h : c.vertices.0 ≤ 1024 = z tt in
         rw (le-leb c.vertices.0 1024 h)
         (room-enough c 3072 3072 2048 4096 record { vertices = omega arith; normals = omega arith; uvs = omega arith; indices = omega arith })
 
-roomed-printable : (a : Answer) (B : Buffers) → For1024 B → ((c : Counts) → a ≡ Done c → FewIn c) → roomed_in B a ≡ printable a
-roomed-printable (Refused e) B s h = refl
-roomed-printable (Done c) B s h = rw (s.vertices, s.normals, s.uvs, s.indices) (room-1024 c (h c refl))
+roomed-printable : (a : Answer) (B : Buffers) → For1024 B → ((c : Counts) → a ≡ Ok c → FewIn c) → roomed_in B a ≡ printable a
+roomed-printable (Err e) B s h = refl
+roomed-printable (Ok c) B s h = rw (s.vertices, s.normals, s.uvs, s.indices) (room-1024 c (h c refl))
 
 module _ (job : Column) (ls : Lists) where
-  pub planned-counts : (c : Counts) → planned job ls ≡ Done c → measure (column_faces job ls) ≡ c
+  pub planned-counts : (c : Counts) → planned job ls ≡ Ok c → measure (column_faces job ls) ≡ c
   planned-counts c e = (done-limited (measure (column_faces job ls)) c (passes job ls (limited (measure (column_faces job ls))) c e)).1
 
   pub whole-printable : (B : Buffers) → For1024 B → whole_answer job ls B ≡ printable (planned job ls)
   whole-printable B s = roomed-printable (planned job ls) B s (λ c e. subst FewIn (planned-counts c e) (few-indices (column_faces job ls) (column-few job ls)))
 
   -- a refused build
-  pub text-refused : (B : Buffers) (e : Refusal) → For1024 B → whole_answer job ls B ≡ Refused e → column_text job ls ≡ refusal_text (code e)
+  pub text-refused : (B : Buffers) (e : Refusal) → For1024 B → whole_answer job ls B ≡ Err e → column_text job ls ≡ refusal_text (code e)
   unfolding column_text
   text-refused B e s p = ap (λ (a : Answer). text_for a (joined (column_faces job ls))) (sym (whole-printable B s) ∙ p)
 
   -- and one that is done: what the buffers hold is the mesh
-  text-done : (B : Buffers) (c : Counts) → For1024 B → whole_answer job ls B ≡ Done c → column_text job ls ≡ text_of (joined (column_faces job ls))
+  text-done : (B : Buffers) (c : Counts) → For1024 B → whole_answer job ls B ≡ Ok c → column_text job ls ≡ text_of (joined (column_faces job ls))
   unfolding column_text
   text-done B c s p = ap (λ (a : Answer). text_for a (joined (column_faces job ls))) (sym (whole-printable B s) ∙ p)
 
@@ -112,10 +112,10 @@ module _ (m : Mesh) (c : Counts) (size : size_of m ≡ c) (C : Buffers) (h : Hol
       subst (λ (x : List ℕ). TextWritten x old new n) buffers-text (subst (λ (x : Bool). Written (x && leb (length t) (length old)) t old new n) buffers-whole w)
 
 module _ (job : Column) (ls : Lists) (B : Buffers) (s : For1024 B) where
-  pub refusal-written : (e : Refusal) → whole_answer job ls B ≡ Refused e → (old new : List ℕ) (n : ℕ) → TextWritten (refusal_text (code e)) old new n → TextWritten (column_text job ls) old new n
+  pub refusal-written : (e : Refusal) → whole_answer job ls B ≡ Err e → (old new : List ℕ) (n : ℕ) → TextWritten (refusal_text (code e)) old new n → TextWritten (column_text job ls) old new n
   refusal-written e p old new n w = subst (λ (x : List ℕ). TextWritten x old new n) (sym (text-refused job ls B e s p)) w
 
-  pub mesh-written : (c : Counts) → whole_answer job ls B ≡ Done c → (C : Buffers) → C ≡ built job ls B → (old new : List ℕ) (n : ℕ)
+  pub mesh-written : (c : Counts) → whole_answer job ls B ≡ Ok c → (C : Buffers) → C ≡ built job ls B → (old new : List ℕ) (n : ℕ)
       → MeshWritten C c old new n → TextWritten (column_text job ls) old new n
   mesh-written c p C e old new n w =
       let fs : List Mesh = column_faces job ls in

@@ -6,8 +6,8 @@ use Rattle.face.specs.Vec.{zero2}
 use Rattle.answer.specs.declared.answer.Buffer.TheVariants.{Vertices}
 use Rattle.answer.specs.declared.answer.Refusal.TheVariants.{Room}
 use Rattle.answer.specs.declared.answer.Refusal.TheVariants as refusal
-use Rattle.answer.specs.declared.answer.Answer.{Answer}
-use Rattle.answer.specs.declared.answer.Answer.TheVariants.{Done, Refused}
+use Rattle.answer.specs.Answers.{Answer}
+use Rattle.std.specs.Prelude.{Ok, Err}
 use Rattle.answer.specs.Answers.{code, told, given}
 use Rattle.placement.specs.declared.options.Choice.{Choice}
 use Rattle.placement.specs.declared.options.Choice.TheVariants as option
@@ -60,8 +60,8 @@ lists_of s = lists (floats s.pairs) (floats s.corners) [] []
 -- ---- its answer
 -- P7, L1: after the plan's own refusals, a plan of more than 1,024 vertices is 51; its need is not printed
 abbrev pub printable : Answer → Answer
-printable (Refused e) = Refused e
-printable (Done c) = given (leb c.vertices.0 1024) (Room Vertices (told Vertices c)) (Done c)
+printable (Err e) = Err e
+printable (Ok c) = given (leb c.vertices.0 1024) (Room Vertices (told Vertices c)) (Ok c)
 
 -- the numbers of a mesh, and of nothing else
 abbrev pub flat : Mesh → Buffers
@@ -78,8 +78,8 @@ text_of m = mesh_text (flat m) (size_of m)
 
 -- P8: `refused N`, or the mesh
 abbrev pub text_for : Answer → Mesh → List ℕ
-text_for (Refused e) m = refusal_text (code e)
-text_for (Done c) m = text_of m
+text_for (Err e) m = refusal_text (code e)
+text_for (Ok c) m = text_of m
 
 -- the mesh is the column's faces end to end
 unfoldable pub column_text : Column → Lists → List ℕ

@@ -110,8 +110,8 @@ fn write_column(job: Column, pairs: &[f32], corners: &[f32], out: &mut [u8]) -> 
         &mut indices,
     );
     match answer {
-        Answer::Refused(why) => write_refusal(why, out),
-        Answer::Done(counts) => writing::write_mesh(
+        Err(why) => write_refusal(why, out),
+        Ok(counts) => writing::write_mesh(
             &vertices, &normals, &uvs, &indices, counts, out,
         ),
     }
@@ -120,7 +120,7 @@ fn write_column(job: Column, pairs: &[f32], corners: &[f32], out: &mut [u8]) -> 
 fn write_refusal(why: Refusal, out: &mut [u8]) -> usize
     ensures { TextWritten (refusal_text (code why)) out.old out.new result }
 {
-    let number = answer::answer::number_of(Answer::Refused(why));
+    let number = answer::answer::number_of(Err(why));
     writing::write_refusal(number, out)
 }
 

@@ -10,7 +10,7 @@ use lib.Ieee.{Float, nan}
 use Rattle.face.specs.Lists.{each, chain}
 use Rattle.face.specs.Vec.{f0}
 use Rattle.face.proofs.Filling.{length-each, each_at, chain_same}
-use Rattle.answer.specs.declared.answer.Answer.TheVariants.{Done}
+use Rattle.std.specs.Prelude.{Ok}
 use Rattle.answer.specs.Answers.{Roomy}
 use Rattle.buffers.specs.Laying.{Buffers, four, laid}
 use Rattle.buffers.proofs.Laid.{length-laid, laid-inside, chain_length}
@@ -71,7 +71,7 @@ module _ (f : ℕ → Facet) (t : ℕ) (R : Buffers) (r : Roomy (unshared t) (le
       )
 
   -- it is a mesh that the writer takes
-  pub writes : (l : ℕ) → 3 * t ≤ 65536 → file_length t ≤ l → write_answer (unshared t) (unpacked f t R) l ≡ Done (unshared t)
+  pub writes : (l : ℕ) → 3 * t ≤ 65536 → file_length t ≤ l → write_answer (unshared t) (unpacked f t R) l ≡ Ok (unshared t)
   writes l h w =
       let v : length (unpacked f t R).vertices ≡ length R.vertices = length-laid R.vertices 0 (chain (λ k. corners_of (f k)) t) in
       let n : length (unpacked f t R).normals ≡ length R.normals = length-laid R.normals 0 (chain (λ k. normals_of (f k)) t) in

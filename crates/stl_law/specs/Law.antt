@@ -4,7 +4,7 @@ use Rattle.std.specs.Prelude.{◌≡◌, true, List, ℕ, ◌+◌, ◌*◌, ◌<
 use Rattle.std.specs.Float.{nan, binary32}
 use Rattle.std.specs.Float.Ieee.{is_nan, fits}
 use Rattle.face.specs.declared.triangle.Counts.{Counts}
-use Rattle.answer.specs.declared.answer.Answer.TheVariants.{Done}
+use Rattle.std.specs.Prelude.{Ok}
 use Rattle.buffers.specs.Laying.{Buffers}
 use Rattle.stl.specs.File.{file_length, filed_pattern, filed_number, filed_count, filed_facet}
 use Rattle.stl_writing.specs.Writing.{facet_of, triangles_of}
@@ -23,7 +23,7 @@ file_in c bytes = take (file_length (triangles_of c)) bytes
 
 -- L2e: read into R, a file has a mesh's triangles in order, and so has the mesh that is read: corners and first vertex's normal
 pub record ReadAs (c : Counts) (B : Buffers) (file : List ℕ) (R : Buffers) : Type 0 where
-  pub answer : read_answer file R ≡ Done (unshared (triangles_of c))
+  pub answer : read_answer file R ≡ Ok (unshared (triangles_of c))
   pub triangles : (k : ℕ) → k < triangles_of c → filed_facet file k ≡ facet_of B k
   pub buffers : read_back file R ≡ unpacked (facet_of B) (triangles_of c) R
   pub mesh : (k : ℕ) → k < triangles_of c → facet_of (read_back file R) k ≡ facet_of B k

@@ -9,8 +9,8 @@ use Rattle.face.specs.Triangles.{counts}
 use Rattle.face.specs.Vec.{v3, f0}
 use Rattle.answer.specs.declared.answer.Buffer.TheVariants.{Vertices, Normals, Uvs, Indices}
 use Rattle.answer.specs.declared.answer.Refusal.TheVariants.{Limit, Room, File}
-use Rattle.answer.specs.declared.answer.Answer.{Answer}
-use Rattle.answer.specs.declared.answer.Answer.TheVariants.{Done, Refused}
+use Rattle.answer.specs.Answers.{Answer}
+use Rattle.std.specs.Prelude.{Ok, Err}
 use Rattle.answer.specs.Answers.{limited, roomed}
 use Rattle.buffers.specs.Laying.{Buffers, four, laid}
 use Rattle.stl.specs.File.{facet, filed_number}
@@ -24,17 +24,17 @@ abbrev none : Buffers
 none = four [] [] [] []
 
 -- no triangles: 84 bytes are a file, 83 and 85 are none
-pub empty-file : read_answer (file (0 ∷ 0 ∷ 0 ∷ 0 ∷ []) 0) none ≡ Done (counts 0 0)
+pub empty-file : read_answer (file (0 ∷ 0 ∷ 0 ∷ 0 ∷ []) 0) none ≡ Ok (counts 0 0)
 empty-file = refl
 
-pub wrong-lengths : map (λ f. read_answer f none) (replicate 83 0 ∷ replicate 85 0 ∷ file (2 ∷ 0 ∷ 0 ∷ 0 ∷ []) 50 ∷ file (255 ∷ 255 ∷ 255 ∷ 255 ∷ []) 50 ∷ [] ∷ []) ≡ Refused File ∷ Refused File ∷ Refused File ∷ Refused File ∷ Refused File ∷ []
+pub wrong-lengths : map (λ f. read_answer f none) (replicate 83 0 ∷ replicate 85 0 ∷ file (2 ∷ 0 ∷ 0 ∷ 0 ∷ []) 50 ∷ file (255 ∷ 255 ∷ 255 ∷ 255 ∷ []) 50 ∷ [] ∷ []) ≡ Err File ∷ Err File ∷ Err File ∷ Err File ∷ Err File ∷ []
 wrong-lengths = refl
 
 -- one triangle: 9, 9, 6 and 3 numbers, in that order
 abbrev answered : ℕ → ℕ → ℕ → ℕ → Answer
 answered = read_tested (file (1 ∷ 0 ∷ 0 ∷ 0 ∷ []) 50)
 
-pub rooms : (answered 8 0 0 0 ≡ Refused (Room Vertices 9)) × (answered 9 8 0 0 ≡ Refused (Room Normals 9)) × (answered 9 9 5 0 ≡ Refused (Room Uvs 6)) × (answered 9 9 6 2 ≡ Refused (Room Indices 3)) × (answered 9 9 6 3 ≡ Done (counts 3 3))
+pub rooms : (answered 8 0 0 0 ≡ Err (Room Vertices 9)) × (answered 9 8 0 0 ≡ Err (Room Normals 9)) × (answered 9 9 5 0 ≡ Err (Room Uvs 6)) × (answered 9 9 6 2 ≡ Err (Room Indices 3)) × (answered 9 9 6 3 ≡ Ok (counts 3 3))
 rooms = (refl, refl, refl, refl, refl)
 
 -- a triangle of zeros is read over what was there, and into a list that is one short nothing is
@@ -46,7 +46,7 @@ pub not-read : read_back (file (1 ∷ 0 ∷ 0 ∷ 0 ∷ []) 50) (four (replicate
 not-read = refl
 
 -- 21,845 triangles have 65,535 vertices, and one more would have 65,538
-pub most-triangles : (limited (unshared 21845) ≡ Done (counts 65535 65535)) × (roomed (limited (unshared 21846)) 0 0 0 0 ≡ Refused Limit)
+pub most-triangles : (limited (unshared 21845) ≡ Ok (counts 65535 65535)) × (roomed (limited (unshared 21846)) 0 0 0 0 ≡ Err Limit)
 most-triangles = (refl, refl)
 
 -- every NaN's pattern is read as the one NaN; -0 stays

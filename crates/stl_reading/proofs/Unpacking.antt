@@ -12,8 +12,8 @@ use lib.ListN.{length, set}
 use Rattle.face.specs.declared.triangle.Counts.{Counts}
 use Rattle.answer.specs.declared.answer.Refusal.{Refusal}
 use Rattle.answer.specs.declared.answer.Refusal.TheVariants.{File}
-use Rattle.answer.specs.declared.answer.Answer.{Answer}
-use Rattle.answer.specs.declared.answer.Answer.TheVariants.{Done, Refused}
+use Rattle.answer.specs.Answers.{Answer}
+use Rattle.std.specs.Prelude.{Ok, Err}
 use Rattle.answer.specs.Answers.{Roomy, given, limited, roomed}
 use Rattle.answer.proofs.Laws.{given-done, done-limited, roomed-done, after-done, after-refused}
 use Rattle.buffers.specs.Laying.{Buffers, laid}
@@ -46,7 +46,7 @@ pub record Reads (file : List ℕ) (v n u i : ℕ) (d : Counts) : Type 0 where
   pub same : unshared (filed_count file) ≡ d
   pub room : Roomy (unshared (filed_count file)) v n u i
 
-pub read_done : (file : List ℕ) (v n u i : ℕ) (d : Counts) → read_tested file v n u i ≡ Done d → Reads file v n u i d
+pub read_done : (file : List ℕ) (v n u i : ℕ) (d : Counts) → read_tested file v n u i ≡ Ok d → Reads file v n u i d
 read_done file v n u i d e =
     let p = given-done (is_file file) File (roomed (limited (unshared (filed_count file))) v n u i) e in
     let r = roomed-done (limited (unshared (filed_count file))) d v n u i p.1 in
@@ -55,7 +55,7 @@ read_done file v n u i d e =
 
 -- ---- what is told and what is left in the buffers, where a test fails and where all pass
 module _ (file : List ℕ) (B : Buffers) where
-  module _ (d : Counts) (e : read_answer file B ≡ Done d) where
+  module _ (d : Counts) (e : read_answer file B ≡ Ok d) where
     reads : Reads file (length B.vertices) (length B.normals) (length B.uvs) (length B.indices) d
     reads = read_done file (length B.vertices) (length B.normals) (length B.uvs) (length B.indices) d e
 
@@ -74,11 +74,11 @@ module _ (file : List ℕ) (B : Buffers) where
           indices = reads.room.indices;
         }
 
-    pub all_read : {C : Buffers} → C ≡ unpacked (filed_facet file) (d.vertices.0 / 3) B → (Done d ≡ read_answer file B) × (C ≡ read_back file B)
+    pub all_read : {C : Buffers} → C ≡ unpacked (filed_facet file) (d.vertices.0 / 3) B → (Ok d ≡ read_answer file B) × (C ≡ read_back file B)
     all_read p = (
       sym e,
       p ∙ ap (λ (t : ℕ). unpacked (filed_facet file) t B) (sym third) ∙ after-done (read_answer file B) B (unpacked (filed_facet file) (filed_count file) B) e,
     )
 
-  pub none_read : {e : Refusal} → read_answer file B ≡ Refused e → (Refused e ≡ read_answer file B) × (B ≡ read_back file B)
+  pub none_read : {e : Refusal} → read_answer file B ≡ Err e → (Err e ≡ read_answer file B) × (B ≡ read_back file B)
   none_read e = (sym e, after-refused (read_answer file B) B (unpacked (filed_facet file) (filed_count file) B) e)

@@ -6,7 +6,7 @@ use Rattle.face.specs.Lists.{each, chain}
 use Rattle.face.specs.Vec.{f0}
 use Rattle.face.specs.Triangles.{counts}
 use Rattle.answer.specs.declared.answer.Refusal.TheVariants.{File}
-use Rattle.answer.specs.declared.answer.Answer.{Answer}
+use Rattle.answer.specs.Answers.{Answer}
 use Rattle.answer.specs.Answers.{given, limited, roomed, after}
 use Rattle.buffers.specs.Laying.{Buffers, four, three, laid}
 use Rattle.stl.specs.declared.Facet.{Facet}

@@ -27,11 +27,11 @@ fn tested(file: &[u8], vertices: usize, normals: usize, uvs: usize, indices: usi
     ensures { result ≡ read_tested file.now vertices normals uvs indices }
 {
     if file.len() < 84 {
-        return Answer::Refused(Refusal::File);
+        return Err(Refusal::File);
     }
     let triangles = pattern_at(file, 80);
     if file.len() != stl::file_length(triangles) {
-        return Answer::Refused(Refusal::File);
+        return Err(Refusal::File);
     }
     let n = 3 * (triangles as usize);
     let counts = Counts {
@@ -159,10 +159,10 @@ pub fn read(
         indices.len(),
     );
     match answer {
-        Answer::Refused(why) => Answer::Refused(why),
-        Answer::Done(counts) => {
+        Err(why) => Err(why),
+        Ok(counts) => {
             unpack(file, counts.vertices.0 / 3, vertices, normals, uvs, indices);
-            Answer::Done(counts)
+            Ok(counts)
         }
     }
 }

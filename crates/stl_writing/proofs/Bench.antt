@@ -8,7 +8,7 @@ use lib.Ieee.{nan, is_nan, of_bits, to_bits}
 use Rattle.patterns.specs.Patterns.{float_of}
 use Rattle.face.specs.Triangles.{counts}
 use Rattle.answer.specs.declared.answer.Refusal.TheVariants.{Shape, Limit, Index, Triangles, Bytes}
-use Rattle.answer.specs.declared.answer.Answer.TheVariants.{Done, Refused}
+use Rattle.std.specs.Prelude.{Ok, Err}
 use Rattle.buffers.specs.Laying.{Buffers, four, laid}
 use Rattle.stl.specs.File.{number_bytes, file_bytes}
 use Rattle.stl_writing.specs.Writing.{facet_of, whole_triangles, write_tested, write_answer, file_answer, written}
@@ -49,11 +49,11 @@ pub sheet-head : take 80 (file_bytes (facet_of sheet) 2) ≡ replicate 80 0
 sheet-head = refl
 
 -- 184 bytes are enough for it, and 183 are not
-pub sheet-answers : map (write_answer (counts 4 6) sheet) (184 ∷ 185 ∷ 183 ∷ 0 ∷ []) ≡ Done (counts 4 6) ∷ Done (counts 4 6) ∷ Refused (Bytes 184) ∷ Refused (Bytes 184) ∷ []
+pub sheet-answers : map (write_answer (counts 4 6) sheet) (184 ∷ 185 ∷ 183 ∷ 0 ∷ []) ≡ Ok (counts 4 6) ∷ Ok (counts 4 6) ∷ Err (Bytes 184) ∷ Err (Bytes 184) ∷ []
 sheet-answers = refl
 
 -- what is told of it: its length beside the counts, 0 where refused; and bytes that are too few stay as they were
-pub sheet-told : map (file_answer (counts 4 6) sheet) (184 ∷ 183 ∷ []) ≡ record { answer = Done (counts 4 6); bytes = 184 } ∷ record { answer = Refused (Bytes 184); bytes = 0 } ∷ []
+pub sheet-told : map (file_answer (counts 4 6) sheet) (184 ∷ 183 ∷ []) ≡ record { answer = Ok (counts 4 6); bytes = 184 } ∷ record { answer = Err (Bytes 184); bytes = 0 } ∷ []
 sheet-told = refl
 
 pub sheet-kept : written (counts 4 6) sheet (replicate 183 9) ≡ replicate 183 9
@@ -75,17 +75,17 @@ number-bytes = refl
 
 -- ---- each refusal with all later faults present
 -- a list of uvs that is short, though no uv is written
-pub shape-first : write_tested (counts 65537 2) 196611 196611 131073 (0 ∷ 65535 ∷ []) 0 ≡ Refused Shape
+pub shape-first : write_tested (counts 65537 2) 196611 196611 131073 (0 ∷ 65535 ∷ []) 0 ≡ Err Shape
 shape-first = refl
 
 -- no index of 16 bits is past so many vertices, but a definition may be asked
-pub limit-second : write_tested (counts 65537 2) 196611 196611 131074 (0 ∷ 65537 ∷ []) 0 ≡ Refused Limit
+pub limit-second : write_tested (counts 65537 2) 196611 196611 131074 (0 ∷ 65537 ∷ []) 0 ≡ Err Limit
 limit-second = refl
 
-pub index-third : write_tested (counts 1 2) 3 3 2 (0 ∷ 1 ∷ []) 0 ≡ Refused Index
+pub index-third : write_tested (counts 1 2) 3 3 2 (0 ∷ 1 ∷ []) 0 ≡ Err Index
 index-third = refl
 
-pub triangles-fourth : write_tested (counts 2 2) 6 6 4 (0 ∷ 1 ∷ []) 0 ≡ Refused Triangles
+pub triangles-fourth : write_tested (counts 2 2) 6 6 4 (0 ∷ 1 ∷ []) 0 ≡ Err Triangles
 triangles-fourth = refl
 
 -- the greatest count of 32 bits, one more, and an index left over

@@ -12,8 +12,8 @@ use lib.Ieee.{Float}
 use Rattle.face.specs.declared.triangle.Counts.{Counts}
 use Rattle.answer.specs.declared.answer.Refusal.{Refusal}
 use Rattle.answer.specs.declared.answer.Refusal.TheVariants.{Shape, Limit, Index}
-use Rattle.answer.specs.declared.answer.Answer.{Answer}
-use Rattle.answer.specs.declared.answer.Answer.TheVariants.{Done, Refused}
+use Rattle.answer.specs.Answers.{Answer}
+use Rattle.std.specs.Prelude.{Ok, Err}
 use Rattle.answer.specs.Answers.{given, value_of}
 use Rattle.answer.specs.Checks.{every, below}
 use Rattle.answer.proofs.Laws.{every-at, every-so, given-done, same-counts, after-done, after-refused}
@@ -40,7 +40,7 @@ module _ (c : Counts) (v n t : ℕ) (is : List ℕ) (l : ℕ) where
       ∙ ap (λ (b : Bool). in_order x y b) r)
 
 -- a writer that is done has passed them all
-pub write_done : (c : Counts) (v n t : ℕ) (is : List ℕ) (l : ℕ) (d : Counts) → write_tested c v n t is l ≡ Done d → (c ≡ d) × Writes d v n t is l
+pub write_done : (c : Counts) (v n t : ℕ) (is : List ℕ) (l : ℕ) (d : Counts) → write_tested c v n t is l ≡ Ok d → (c ≡ d) × Writes d v n t is l
 write_done c v n t is l d e =
     let p = given-done _ _ _ e in
     let q = given-done _ _ _ p.1 in
@@ -65,7 +65,7 @@ write_done c v n t is l d e =
     let same = same-counts u.1 in (same, subst (λ (x : Counts). Writes x v n t is l) same passed)
 
 -- and conversely
-pub all_pass : (c : Counts) (v n t : ℕ) (is : List ℕ) (l : ℕ) → Writes c v n t is l → write_tested c v n t is l ≡ Done c
+pub all_pass : (c : Counts) (v n t : ℕ) (is : List ℕ) (l : ℕ) → Writes c v n t is l → write_tested c v n t is l ≡ Ok c
 all_pass c v n t is l w =
     let long = length-take-le c.indices.0 is w.room.indices in
     let own : every (below c.vertices.0) (take c.indices.0 is) ≡ true =
@@ -97,17 +97,17 @@ module _ (c : Counts) (B : Buffers) (old : List ℕ) where
   abbrev new : List ℕ
   new = laid old 0 (file_bytes (facet_of B) (triangles_of c))
 
-  pub file-fits : {d : Counts} → write_answer c B (length old) ≡ Done d → Writes d (length B.vertices) (length B.normals) (length B.uvs) B.indices (length old)
+  pub file-fits : {d : Counts} → write_answer c B (length old) ≡ Ok d → Writes d (length B.vertices) (length B.normals) (length B.uvs) B.indices (length old)
   file-fits {d} e = (write_done c (length B.vertices) (length B.normals) (length B.uvs) B.indices (length old) d e).1
 
-  pub file-refused : {e : Refusal} → write_answer c B (length old) ≡ Refused e → (record { answer = Refused e; bytes = 0 } ≡ file_answer c B (length old)) × (old ≡ written c B old)
+  pub file-refused : {e : Refusal} → write_answer c B (length old) ≡ Err e → (record { answer = Err e; bytes = 0 } ≡ file_answer c B (length old)) × (old ≡ written c B old)
   file-refused e = (sym (ap told e), after-refused (write_answer c B (length old)) old new e)
 
-  pub file-done : {d : Counts} {l : List ℕ} {n : ℕ} → write_answer c B (length old) ≡ Done d → l ≡ laid old 0 (file_bytes (facet_of B) (triangles_of d)) → n ≡ file_length (triangles_of d)
-      → (record { answer = Done d; bytes = n } ≡ file_answer c B (length old)) × (l ≡ written c B old)
+  pub file-done : {d : Counts} {l : List ℕ} {n : ℕ} → write_answer c B (length old) ≡ Ok d → l ≡ laid old 0 (file_bytes (facet_of B) (triangles_of d)) → n ≡ file_length (triangles_of d)
+      → (record { answer = Ok d; bytes = n } ≡ file_answer c B (length old)) × (l ≡ written c B old)
   file-done {d} {l} {n} e p q =
       let same : c ≡ d = (write_done c (length B.vertices) (length B.normals) (length B.uvs) B.indices (length old) d e).0 in
       let there : triangles_of d ≡ triangles_of c = ap triangles_of (sym same) in (
-        ap (λ (m : ℕ). record { answer = Done d; bytes = m }) (q ∙ ap file_length there) ∙ sym (ap told e),
+        ap (λ (m : ℕ). record { answer = Ok d; bytes = m }) (q ∙ ap file_length there) ∙ sym (ap told e),
         p ∙ ap (λ (t : ℕ). laid old 0 (file_bytes (facet_of B) t)) there ∙ after-done (write_answer c B (length old)) old new e,
       )

@@ -2,8 +2,8 @@
 use Rattle.std.specs.Prelude.{ℕ, ◌+◌, ◌*◌, ◌/◌, ◌%◌, ◌≤◌, ◌<◌, ◌≡◌, Bool, ◌&&◌, List, length, take, get_or, leb, eqb, Float}
 use Rattle.face.specs.declared.triangle.Counts.{Counts}
 use Rattle.answer.specs.declared.answer.Refusal.TheVariants.{Shape, Limit, Index, Triangles, Bytes}
-use Rattle.answer.specs.declared.answer.Answer.{Answer}
-use Rattle.answer.specs.declared.answer.Answer.TheVariants.{Done}
+use Rattle.answer.specs.Answers.{Answer}
+use Rattle.std.specs.Prelude.{Ok}
 use Rattle.answer.specs.Answers.{Roomy, given, after, value_of}
 use Rattle.answer.specs.Checks.{every, below}
 use Rattle.buffers.specs.Laying.{Buffers, laid}
@@ -44,7 +44,7 @@ whole_triangles i = eqb (i % 3) 0 && leb (i / 3) 4294967295
 abbrev pub length_tested : Counts → ℕ → Answer
 length_tested c l =
     given (whole_triangles c.indices.0) Triangles
-    (given (leb (file_length (triangles_of c)) l) (Bytes (file_length (triangles_of c))) (Done c))
+    (given (leb (file_length (triangles_of c)) l) (Bytes (file_length (triangles_of c))) (Ok c))
 
 -- L2b: 1, 4, 7, 10, 55, from the lengths of the lists, the indices and the length of the byte buffer
 abbrev pub write_tested : Counts → ℕ → ℕ → ℕ → List ℕ → ℕ → Answer

@@ -28,16 +28,16 @@ fn length_tested(counts: Counts, bytes: usize) -> Answer
 {
     let n = counts.indices.0;
     if n % 3 != 0 {
-        return Answer::Refused(Refusal::Triangles);
+        return Err(Refusal::Triangles);
     }
     if n / 3 > 4294967295 {
-        return Answer::Refused(Refusal::Triangles);
+        return Err(Refusal::Triangles);
     }
     let length = stl::file_length((n / 3) as u32);
     if length > bytes {
-        return Answer::Refused(Refusal::Bytes(length));
+        return Err(Refusal::Bytes(length));
     }
-    Answer::Done(counts)
+    Ok(counts)
 }
 
 fn tested(
@@ -56,11 +56,11 @@ fn tested(
             if answer::check::all_below(counts.vertices.0, &indices[..n]) {
                 return length_tested(counts, bytes);
             }
-            return Answer::Refused(Refusal::Index);
+            return Err(Refusal::Index);
         }
-        return Answer::Refused(Refusal::Limit);
+        return Err(Refusal::Limit);
     }
-    Answer::Refused(Refusal::Shape)
+    Err(Refusal::Shape)
 }
 
 fn put_four(bytes: &mut [u8], at: usize, a: u8, b: u8, c: u8, d: u8)
@@ -185,15 +185,15 @@ pub fn write(
         bytes.len(),
     );
     match answer {
-        Answer::Refused(why) => FileAnswer {
-            answer: Answer::Refused(why),
+        Err(why) => FileAnswer {
+            answer: Err(why),
             bytes: 0,
         },
-        Answer::Done(mesh) => {
+        Ok(mesh) => {
             let triangles = (mesh.indices.0 / 3) as u32;
             put_file(vertices, normals, indices, triangles, bytes);
             FileAnswer {
-                answer: Answer::Done(mesh),
+                answer: Ok(mesh),
                 bytes: stl::file_length(triangles),
             }
         }

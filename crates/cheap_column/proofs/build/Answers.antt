@@ -1,6 +1,6 @@
 -- `build`: the plan, then the room, then the one face. Assumes nothing.
 use mathlib.Core.Path.{◌≡◌, sym, ap₂, ◌∙◌, subst}
-use Rattle.answer.specs.declared.answer.Answer.{Answer}
+use Rattle.answer.specs.Answers.{Answer}
 use Rattle.answer.specs.Answers.{after}
 use Rattle.buffers.specs.Laying.{Buffers, four}
 use Rattle.cheap_column.specs.CheapColumn.{whole_answer, Ready}

@@ -1,6 +1,6 @@
 -- `face`: the plan, then the number, then the room, then the one face. Assumes nothing.
 use mathlib.Core.Path.{◌≡◌, sym, ap, ◌∙◌, subst}
-use Rattle.answer.specs.declared.answer.Answer.{Answer}
+use Rattle.answer.specs.Answers.{Answer}
 use Rattle.answer.specs.Answers.{after}
 use Rattle.buffers.specs.Mesh.{none}
 use Rattle.buffers.specs.Laying.{four, lay_one}

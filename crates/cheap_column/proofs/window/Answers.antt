@@ -1,6 +1,6 @@
 -- `window`: the plan, then the number; the one face is all of it. Assumes nothing.
 use mathlib.Core.Path.{ap, ◌∙◌}
-use Rattle.answer.specs.declared.answer.Answer.{Answer}
+use Rattle.answer.specs.Answers.{Answer}
 use Rattle.answer.specs.Answers.{named}
 use Rattle.mesh.proofs.Places.{alone-window}
 use Rattle.cheap_column.specs.CheapColumn.{cheap_mesh, checked}

@@ -12,17 +12,17 @@ use Rattle.column_builder.specs.Calls.{face_answer}
 use Rattle.column_builder.proofs.Single.{face-ready, stands-laid}
 use Rattle.column_builder.proofs.face.Goals as goal
 
-pub returns-in-Refused : goal.returns-in-Refused
-returns-in-Refused c = let a = c.args in
+pub returns-in-Err : goal.returns-in-Err
+returns-in-Err c = let a = c.args in
     let X = four a.vertices.now a.normals.now a.uvs.now a.indices.now in
     let ls = lists a.pairs.now a.corners.now a.numbers.now a.marks.now in
-    let e = sym (rw (c.name-named.ensures, c.face_count.ensures ∙ face-total a.job ls, c.plan.ensures) at c.room-roomed.ensures) ∙ c.in-Refused.is in record { answer = sym e; buffers = after-refused (face_answer a.job ls a.number X) X _ e }
+    let e = sym (rw (c.name-named.ensures, c.face_count.ensures ∙ face-total a.job ls, c.plan.ensures) at c.room-roomed.ensures) ∙ c.in-Err.is in record { answer = sym e; buffers = after-refused (face_answer a.job ls a.number X) X _ e }
 
-pub returns-in-Done : goal.returns-in-Done
-returns-in-Done c = let a = c.args in
+pub returns-in-Ok : goal.returns-in-Ok
+returns-in-Ok c = let a = c.args in
     let X = four a.vertices.now a.normals.now a.uvs.now a.indices.now in
     let ls = lists a.pairs.now a.corners.now a.numbers.now a.marks.now in
-    let e = sym (rw (c.name-named.ensures, c.face_count.ensures ∙ face-total a.job ls, c.plan.ensures) at c.room-roomed.ensures) ∙ c.in-Done.is in
+    let e = sym (rw (c.name-named.ensures, c.face_count.ensures ∙ face-total a.job ls, c.plan.ensures) at c.room-roomed.ensures) ∙ c.in-Ok.is in
     let r = face-ready a.job ls a.number X _ e in
     let n = c.name_of-name.result in record {
       answer = sym e;

@@ -11,14 +11,14 @@ use Rattle.heightmap_plan.specs.declared.window.Sought.{Sought}
 use Rattle.heightmap_builder.proofs.Single.{face-laid}
 use Rattle.heightmap_builder.proofs.face.Goals as goal
 
-pub returns-in-Refused : goal.returns-in-Refused
-returns-in-Refused c = let a = c.args in
+pub returns-in-Err : goal.returns-in-Err
+returns-in-Err c = let a = c.args in
     let X = four a.vertices.now a.normals.now a.uvs.now a.indices.now in
     let ls = lists (grid a.cells.now a.neighbours.now a.fringe.now) a.customs.now a.corners.now a.numbers.now a.marks.now in
-    let e = sym (c.room-roomed.ensures ∙ ap (roomed_in X) (ap (λ (x : Sought). x.answer) c.seek-s.ensures)) ∙ c.in-Refused.is in record { answer = sym e; buffers = after-refused (face_answer a.job ls a.number X) X (lay_one (map_faces a.job ls) a.number none X) e }
+    let e = sym (c.room-roomed.ensures ∙ ap (roomed_in X) (ap (λ (x : Sought). x.answer) c.seek-s.ensures)) ∙ c.in-Err.is in record { answer = sym e; buffers = after-refused (face_answer a.job ls a.number X) X (lay_one (map_faces a.job ls) a.number none X) e }
 
-pub returns-in-Done : goal.returns-in-Done
-returns-in-Done c = let a = c.args in
+pub returns-in-Ok : goal.returns-in-Ok
+returns-in-Ok c = let a = c.args in
     let X = four a.vertices.now a.normals.now a.uvs.now a.indices.now in
     let ls = lists (grid a.cells.now a.neighbours.now a.fringe.now) a.customs.now a.corners.now a.numbers.now a.marks.now in
-    let e = sym (c.room-roomed.ensures ∙ ap (roomed_in X) (ap (λ (x : Sought). x.answer) c.seek-s.ensures)) ∙ c.in-Done.is in record { answer = sym e; buffers = c.put_named.ensures ∙ face-laid a.job (grid a.cells.now a.neighbours.now a.fringe.now) a.customs.now a.corners.now a.numbers.now a.marks.now a.number X _ c.seek-s.result.found e (ap (λ (x : Sought). x.found) c.seek-s.ensures) ∙ after-done (face_answer a.job ls a.number X) X (lay_one (map_faces a.job ls) a.number none X) e }
+    let e = sym (c.room-roomed.ensures ∙ ap (roomed_in X) (ap (λ (x : Sought). x.answer) c.seek-s.ensures)) ∙ c.in-Ok.is in record { answer = sym e; buffers = c.put_named.ensures ∙ face-laid a.job (grid a.cells.now a.neighbours.now a.fringe.now) a.customs.now a.corners.now a.numbers.now a.marks.now a.number X _ c.seek-s.result.found e (ap (λ (x : Sought). x.found) c.seek-s.ensures) ∙ after-done (face_answer a.job ls a.number X) X (lay_one (map_faces a.job ls) a.number none X) e }

@@ -1,6 +1,6 @@
 -- `test`: the sums, then the tests. Assumes nothing.
 use mathlib.Core.Path.{◌∙◌}
-use Rattle.answer.specs.declared.answer.Answer.TheVariants.{Done}
+use Rattle.std.specs.Prelude.{Ok}
 use Rattle.heightmap.specs.Grid.{grid}
 use Rattle.heightmap.specs.HeightMap.{lists}
 use Rattle.heightmap_plan.proofs.Deciding.{counted-first}
@@ -9,4 +9,4 @@ use Rattle.heightmap_plan.proofs.test.Goals as goal
 pub returns : goal.returns
 returns c = let a = c.args in
     let ls = lists (grid a.cells.now a.neighbours.now a.fringe.now) a.customs.now a.corners.now a.numbers.now a.marks.now in
-    c.check.ensures ∙ counted-first a.job ls Done _ c.tally_all-all.ensures
+    c.check.ensures ∙ counted-first a.job ls Ok _ c.tally_all-all.ensures

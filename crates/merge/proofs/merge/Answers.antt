@@ -10,17 +10,17 @@ pub append-requires : goal.append-requires
 append-requires c = let a = c.args in
     let S = four a.svertices.now a.snormals.now a.suvs.now a.sindices.now in
     let T = four a.vertices.now a.normals.now a.uvs.now a.indices.now in
-    let e = sym c.answer_of-answer.ensures ∙ c.in-Done.is in
+    let e = sym c.answer_of-answer.ensures ∙ c.in-Ok.is in
     merged-counts a.source S a.target T _ e
 
-pub returns-in-Refused : goal.returns-in-Refused
-returns-in-Refused c = let a = c.args in
+pub returns-in-Err : goal.returns-in-Err
+returns-in-Err c = let a = c.args in
     let S = four a.svertices.now a.snormals.now a.suvs.now a.sindices.now in
     let T = four a.vertices.now a.normals.now a.uvs.now a.indices.now in
-    let e = sym c.answer_of-answer.ensures ∙ c.in-Refused.is in record { answer = sym e; buffers = after-refused (merge_answer a.source S a.target T) T (appended a.source S a.target T) e }
+    let e = sym c.answer_of-answer.ensures ∙ c.in-Err.is in record { answer = sym e; buffers = after-refused (merge_answer a.source S a.target T) T (appended a.source S a.target T) e }
 
-pub returns-in-Done : goal.returns-in-Done
-returns-in-Done c = let a = c.args in
+pub returns-in-Ok : goal.returns-in-Ok
+returns-in-Ok c = let a = c.args in
     let S = four a.svertices.now a.snormals.now a.suvs.now a.sindices.now in
     let T = four a.vertices.now a.normals.now a.uvs.now a.indices.now in
-    let e = sym c.answer_of-answer.ensures ∙ c.in-Done.is in record { answer = sym e; buffers = c.append.ensures ∙ after-done (merge_answer a.source S a.target T) T (appended a.source S a.target T) e }
+    let e = sym c.answer_of-answer.ensures ∙ c.in-Ok.is in record { answer = sym e; buffers = c.append.ensures ∙ after-done (merge_answer a.source S a.target T) T (appended a.source S a.target T) e }

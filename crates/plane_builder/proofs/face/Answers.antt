@@ -1,6 +1,6 @@
 -- `face`: the plan, then the number, then the room, then the one face. Assumes nothing.
 use mathlib.Core.Path.{ap, ◌∙◌}
-use Rattle.answer.specs.declared.answer.Answer.{Answer}
+use Rattle.answer.specs.Answers.{Answer}
 use Rattle.buffers.specs.Laying.{four}
 use Rattle.plane_builder.specs.Plane.{lists, plane_mesh, laid_if_done}
 use Rattle.plane_builder.proofs.Laws.{face-left}

@@ -19,19 +19,19 @@ steps : (job : Plane) (ls : Lists) (p : Placement) (t : Stand) (o : FaceOptions)
 steps job ls p t o B R e f g h =
     h ∙ ap₂ (λ (u : Stand) (v : FaceOptions). laid_if_fits (cap_mesh u ls.corners v) none B) (f ∙ ap (stand_by Absent false) e) g
 
-pub returns-in-Refused : goal.returns-in-Refused
-returns-in-Refused c =
+pub returns-in-Err : goal.returns-in-Err
+returns-in-Err c =
     let a = c.args in
     let ls = lists a.corners.now a.numbers.now a.marks.now in
     let B = four a.vertices.now a.normals.now a.uvs.now a.indices.now in
-    after-refused a.answer B (laid_if_fits (plane_mesh a.job ls) none B) c.in-Refused.is
+    after-refused a.answer B (laid_if_fits (plane_mesh a.job ls) none B) c.in-Err.is
 
-pub returns-in-Done : goal.returns-in-Done
-returns-in-Done c =
+pub returns-in-Ok : goal.returns-in-Ok
+returns-in-Ok c =
     let a = c.args in
     let ls = lists a.corners.now a.numbers.now a.marks.now in
     let B = four a.vertices.now a.normals.now a.uvs.now a.indices.now in
     let n = c.put_cap.new in
     let R = four n.vertices n.normals n.uvs n.indices in
     steps a.job ls c.settle.result c.stand_by-stand.result c.option_at-o.result B R c.settle.ensures c.stand_by-stand.ensures c.option_at-o.ensures c.put_cap.ensures
-    ∙ after-done a.answer B (laid_if_fits (plane_mesh a.job ls) none B) c.in-Done.is
+    ∙ after-done a.answer B (laid_if_fits (plane_mesh a.job ls) none B) c.in-Ok.is

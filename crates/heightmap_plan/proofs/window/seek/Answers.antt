@@ -1,6 +1,6 @@
 -- `seek`: the sums come first, then the tests and the number among the faces. Assumes nothing.
 use mathlib.Core.Path.{ap, ap₂, ◌∙◌}
-use Rattle.answer.specs.declared.answer.Answer.{Answer}
+use Rattle.answer.specs.Answers.{Answer}
 use Rattle.answer.specs.Answers.{limited, named}
 use Rattle.heightmap.specs.Grid.{grid}
 use Rattle.heightmap.specs.HeightMap.{lists}

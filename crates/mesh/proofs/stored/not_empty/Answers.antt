@@ -3,10 +3,10 @@ use Rattle.std.proofs.Common.{le-ltb, lt-ltb}
 use Rattle.mesh.proofs.stored.not_empty.Goals as goal
 
 pub returns-then-counts-gt0 : goal.returns-then-counts-gt0
-returns-then-counts-gt0 c = rw c.in-Done.is (rw (lt-ltb _ _ c.if-counts-gt0.true))
+returns-then-counts-gt0 c = rw c.in-Ok.is (rw (lt-ltb _ _ c.if-counts-gt0.true))
 
-pub returns-in-Refused : goal.returns-in-Refused
-returns-in-Refused c = rw c.in-Refused.is
+pub returns-in-Err : goal.returns-in-Err
+returns-in-Err c = rw c.in-Err.is
 
 pub returns-else-counts-gt0 : goal.returns-else-counts-gt0
-returns-else-counts-gt0 c = rw c.in-Done.is (rw (le-ltb _ _ c.if-counts-gt0.false))
+returns-else-counts-gt0 c = rw c.in-Ok.is (rw (le-ltb _ _ c.if-counts-gt0.false))

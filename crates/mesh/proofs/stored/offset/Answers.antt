@@ -15,12 +15,12 @@ new by B k = four (moved_points (λ p. plus3 p by) k.vertices.0 B.vertices) B.no
 
 pub shift_points-requires : goal.shift_points-requires
 shift_points-requires c = let a = c.args in
-    (kept a.counts (four a.vertices.now a.normals.now a.uvs.now a.indices.now) (in_range3 a.by) c.in-Done.is c.answer_of-answer.ensures c.in_range3-good.ensures).room.vertices
+    (kept a.counts (four a.vertices.now a.normals.now a.uvs.now a.indices.now) (in_range3 a.by) c.in-Ok.is c.answer_of-answer.ensures c.in_range3-good.ensures).room.vertices
 
-pub returns-in-Refused : goal.returns-in-Refused
-returns-in-Refused c = let a = c.args in
-    let B = four a.vertices.now a.normals.now a.uvs.now a.indices.now in let whole = left a.counts B (in_range3 a.by) (new a.by B) c.in-Refused.is c.answer_of-answer.ensures c.in_range3-good.ensures in record { answer = whole.0; buffers = whole.1 }
+pub returns-in-Err : goal.returns-in-Err
+returns-in-Err c = let a = c.args in
+    let B = four a.vertices.now a.normals.now a.uvs.now a.indices.now in let whole = left a.counts B (in_range3 a.by) (new a.by B) c.in-Err.is c.answer_of-answer.ensures c.in_range3-good.ensures in record { answer = whole.0; buffers = whole.1 }
 
-pub returns-in-Done : goal.returns-in-Done
-returns-in-Done c = let a = c.args in
-    let B = four a.vertices.now a.normals.now a.uvs.now a.indices.now in let whole = moved a.counts B (in_range3 a.by) (new a.by B) c.in-Done.is c.answer_of-answer.ensures c.in_range3-good.ensures (ap (λ (l : List Float). four l B.normals B.uvs B.indices) c.shift_points.ensures) in record { answer = whole.0; buffers = whole.1 }
+pub returns-in-Ok : goal.returns-in-Ok
+returns-in-Ok c = let a = c.args in
+    let B = four a.vertices.now a.normals.now a.uvs.now a.indices.now in let whole = moved a.counts B (in_range3 a.by) (new a.by B) c.in-Ok.is c.answer_of-answer.ensures c.in_range3-good.ensures (ap (λ (l : List Float). four l B.normals B.uvs B.indices) c.shift_points.ensures) in record { answer = whole.0; buffers = whole.1 }
