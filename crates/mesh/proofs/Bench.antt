@@ -26,11 +26,11 @@ past-the-limit = refl
 pub at-the-limit : stored_answer (counts 65536 5) true 196608 196608 131072 9 ≡ Ok (counts 65536 5)
 at-the-limit = refl
 
--- R8, R10: no vertices have no middle, and what comes beside the refusal is +0
-pub no_middle : centroid_of (counts 0 0) (four (nan ∷ []) [] [] []) ≡ record { answer = Err Empty; centroid = zero3 }
+-- R8: no vertices have no middle
+pub no_middle : centroid_of (counts 0 0) (four (nan ∷ []) [] [] []) ≡ Err Empty
 no_middle = refl
 
--- ---- a face of four vertices and two triangles, then one of six and four: end to end, then 6 with every number 0
+-- ---- a face of four vertices and two triangles, then one of six and four: end to end, then 6
 abbrev face_with : ℕ → ℕ → Mesh
 face_with v t = record { vertices = each (λ k. record { position = zero3; normal = zero3; uv = zero2 }) v; triangles = each (λ k. no_triangle) t }
 
@@ -38,15 +38,15 @@ abbrev two : List Mesh
 two = face_with 4 2 ∷ face_with 6 4 ∷ []
 
 pub two-windows :
-    (faces_of (λ a. a) two ≡ record { answer = Ok (counts 10 18); faces = 2 })
-    × (window_of (λ a. a) two 0 ≡ record { answer = Ok (counts 10 18); start = counts 0 0; size = counts 4 6 })
-    × (window_of (λ a. a) two 1 ≡ record { answer = Ok (counts 10 18); start = counts 4 6; size = counts 6 12 })
-    × (window_of (λ a. a) two 2 ≡ record { answer = Err NoFace; start = none; size = none })
+    (faces_of (λ a. a) two ≡ Ok (record { counts = (counts 10 18); faces = 2 }))
+    × (window_of (λ a. a) two 0 ≡ Ok (record { counts = (counts 10 18); start = counts 0 0; size = counts 4 6 }))
+    × (window_of (λ a. a) two 1 ≡ Ok (record { counts = (counts 10 18); start = counts 4 6; size = counts 6 12 }))
+    × (window_of (λ a. a) two 2 ≡ Err NoFace)
 two-windows = (refl, refl, refl, refl)
 
 -- the plan's refusals come before 6, and no face is counted beside one
 pub plan-before-face :
-    (faces_of (λ a. Err Range) two ≡ record { answer = Err Range; faces = 0 })
-    × (window_of (λ a. Err Range) two 2 ≡ record { answer = Err Range; start = none; size = none })
-    × (window_by (named (limited (counts 65537 0)) 2 2) (counts 10 18) (counts 4 6) ≡ record { answer = Err Limit; start = none; size = none })
+    (faces_of (λ a. Err Range) two ≡ Err Range)
+    × (window_of (λ a. Err Range) two 2 ≡ Err Range)
+    × (window_by (named (limited (counts 65537 0)) 2 2) (counts 10 18) (counts 4 6) ≡ Err Limit)
 plan-before-face = (refl, refl, refl)

@@ -18,7 +18,7 @@ use Rattle.answer.proofs.Laws.{given-done, done-limited, not_done, same-counts}
 use Rattle.buffers.specs.Laying.{Buffers, three, two, laid}
 use Rattle.buffers.proofs.Laid.{Laying, laying-more, laid-outside, chain_length}
 use Rattle.buffers.proofs.Rooms.{both}
-use Rattle.mesh.specs.Stored.{holds_counts, answer_of, centroid_answer, not_empty, point_from, uv_from}
+use Rattle.mesh.specs.Stored.{holds_counts, answer_of, centroid_answer, middle_by, not_empty, point_from, uv_from}
 
 -- ---- a loop that replaces n numbers a turn by a part made of them: it reads from its place on
 -- alone, so what is laid before that place does not change it
@@ -107,37 +107,10 @@ module _ (c : Counts) (B : Buffers) where
       let l = done-limited c d (given-done good Range (limited c) h.1).1 in
       record { same = l.1; limit = rw l.1 at l.0; room = rw l.1 at (holds-room c _ _ _ _ h.0) }
 
-  -- the code's answer a is matched on; good is what its own test of the parameter says
-  module _ (ok : Bool) where
-    told : {good : Bool} {a x : Answer} → a ≡ x → a ≡ answer_of c good B → good ≡ ok → x ≡ answer_of c ok B
-    told k e g = sym k ∙ e ∙ ap (λ (z : Bool). answer_of c z B) g
-
-    pub kept : {good : Bool} {a : Answer} {d : Counts} → a ≡ Ok d → a ≡ answer_of c good B → good ≡ ok → Kept c d B
-    kept {good} {a} {d} k e g = stored-done ok d (sym (told k e g))
-
-    -- buffers for which new is what is to be written: as they were after a refusal, else so written
-    pub left : (new : Counts → Buffers) {good : Bool} {a : Answer} {e : Refusal} → a ≡ Err e → a ≡ answer_of c good B → good ≡ ok → (Err e ≡ answer_of c ok B) × (B ≡ after (answer_of c ok B) B (new c))
-    left new k e g = let q = told k e g in (q, rw (← q))
-
-    pub moved : (new : Counts → Buffers) {good : Bool} {a : Answer} {d : Counts} {x : Buffers} → a ≡ Ok d → a ≡ answer_of c good B → good ≡ ok → x ≡ new d → (Ok d ≡ answer_of c ok B) × (x ≡ after (answer_of c ok B) B (new c))
-    moved new k e g h = let q = told k e g in (q, rw (← q) (h ∙ sym (ap new (kept k e g).same)))
-
-  -- ---- the same of a centroid's answer p
-  told-centre : {a p x : Answer} → p ≡ x → p ≡ not_empty a → a ≡ answer_of c true B → x ≡ centroid_answer c B
-  told-centre k e g = sym k ∙ e ∙ ap not_empty g
-
-  pub kept-centre : {a p : Answer} {d : Counts} → p ≡ Ok d → p ≡ not_empty a → a ≡ answer_of c true B → Kept c d B
-  kept-centre {a} {p} {d} k e g = stored-done true d (not_empty-done (answer_of c true B) d (sym (told-centre k e g))).0
-
-  -- the centroid beside it: +0 after a refusal, else the middle
-  module _ {A C : Type 0} (beside : Answer → A → C) (plus : A → A → A) (none : A) (over : A → Float → A) (g : ℕ → A) where
-    abbrev centre : Answer → C
-    centre p = beside p (value_of none p (middle plus none over (each g c.vertices.0)))
-
-    pub no-centre : {a p : Answer} {e : Refusal} → p ≡ Err e → p ≡ not_empty a → a ≡ answer_of c true B → beside (Err e) none ≡ centre (centroid_answer c B)
-    no-centre k e h = ap centre (told-centre k e h)
-
-    pub centred : {a p : Answer} {d : Counts} {t x : A} → p ≡ Ok d → p ≡ not_empty a → a ≡ answer_of c true B → t ≡ foldl plus none (each g d.vertices.0) → x ≡ over t (of_int binary32 (pos d.vertices.0)) → beside (Ok d) x ≡ centre (centroid_answer c B)
-    centred {a} {p} {d} k e h s m =
-        ap (beside (Ok d)) (mean-middle plus none over g d.vertices.0 _ _ s m ∙ sym (ap (λ (w : Counts). middle plus none over (each g w.vertices.0)) (kept-centre k e h).same))
-        ∙ ap centre (told-centre k e h)
+  -- ---- a done centroid is the middle, and the counts are those given
+  module _ {A : Type 0} (plus : A → A → A) (none : A) (over : A → Float → A) (g : ℕ → A) where
+    pub centred : {d : Counts} {t x : A} → centroid_answer c B ≡ Ok d → t ≡ foldl plus none (each g d.vertices.0) → x ≡ over t (of_int binary32 (pos d.vertices.0))
+        → Ok (record { counts = d; centroid = x }) ≡ middle_by (centroid_answer c B) (middle plus none over (each g c.vertices.0))
+    centred {d} k s m =
+        let same = (stored-done true d (not_empty-done (answer_of c true B) d k).0).same in
+        rw (k, mean-middle plus none over g d.vertices.0 _ _ s m, same)

@@ -1,13 +1,13 @@
 -- A job of any kind: its tests before the limit, and its faces. What the three calls answer and leave, and what is told
 -- of its faces without a buffer, is said here once for every kind; R10 to R18 and L1a to L1c are rows of docs/TRACE.md.
 -- Definitions only.
-use Rattle.std.specs.Prelude.{◌≡◌, ℕ, List, [], ◌∷◌, length}
+use Rattle.std.specs.Prelude.{◌≡◌, ℕ, List, [], ◌∷◌, length, Result, Ok, Err}
 use Rattle.face.specs.declared.triangle.Counts.{Counts}
 use Rattle.answer.specs.declared.answer.Buffer.{Buffer}
+use Rattle.answer.specs.declared.answer.Refusal.{Refusal}
 use Rattle.answer.specs.declared.answer.Refusal.TheVariants.{Room}
 use Rattle.answer.specs.Answers.{Answer}
-use Rattle.std.specs.Prelude.{Err}
-use Rattle.answer.specs.Answers.{limited, named, roomed, after, value_of, lengths, need_for, Roomy, Short, FirstShort}
+use Rattle.answer.specs.Answers.{limited, named, roomed, after, lengths, need_for, Roomy, Short, FirstShort}
 use Rattle.buffers.specs.Mesh.{Mesh, none, size_of, measure, start_of}
 use Rattle.buffers.specs.Laying.{Buffers, lay_all, lay_one}
 use Rattle.buffers.specs.Steps.{Step, Lays, Refuses}
@@ -55,19 +55,21 @@ built_of checked fs B = after (whole_of checked fs B) B (lay_all fs none B)
 abbrev pub faced_of : (Answer → Answer) → List Mesh → ℕ → Buffers → Buffers
 faced_of checked fs k B = after (one_of checked fs k B) B (lay_one fs k none B)
 
--- ---- what is told of the faces beside an answer, every number 0 where it is a refusal (R10)
-abbrev pub faces_by : Answer → ℕ → Faces
-faces_by a n = record { answer = a; faces = value_of 0 a n }
+-- ---- what is told of the faces beside the counts; a refusal tells nothing more (R10)
+abbrev pub faces_by : Answer → ℕ → Result Faces Refusal
+faces_by (Ok c) n = Ok (record { counts = c; faces = n })
+faces_by (Err e) n = Err e
 
-abbrev pub window_by : Answer → Counts → Counts → Window
-window_by a at size = record { answer = a; start = value_of none a at; size = value_of none a size }
+abbrev pub window_by : Answer → Counts → Counts → Result Window Refusal
+window_by (Ok c) at size = Ok (record { counts = c; start = at; size = size })
+window_by (Err e) at size = Err e
 
 -- how many faces there are, with the plan's answer
-abbrev pub faces_of : (Answer → Answer) → List Mesh → Faces
+abbrev pub faces_of : (Answer → Answer) → List Mesh → Result Faces Refusal
 faces_of checked fs = faces_by (planned_of checked fs) (length fs)
 
 -- R12, R16: where the k-th face starts and how many vertices and indices it has: the plan's refusals, then 6; no room is asked
-abbrev pub window_of : (Answer → Answer) → List Mesh → ℕ → Window
+abbrev pub window_of : (Answer → Answer) → List Mesh → ℕ → Result Window Refusal
 window_of checked fs k = window_by (named (planned_of checked fs) k (length fs)) (start_of fs k) (size_of (face_at fs k))
 
 -- ---- X5: a run of calls on the same buffers: faces of the job, and refused calls of any kind and any job

@@ -1,5 +1,5 @@
 -- What is done to a stored mesh; M5 to R19 are rows of docs/TRACE.md. Definitions only.
-use Rattle.std.specs.Prelude.{ℕ, ◌+◌, ◌*◌, Bool, true, ◌&&◌, List, length, pos, nat_le, nat_lt, slice_index_or, Float}
+use Rattle.std.specs.Prelude.{ℕ, ◌+◌, ◌*◌, Bool, true, ◌&&◌, List, length, pos, nat_le, nat_lt, slice_index_or, Float, Result, Ok, Err}
 use Rattle.std.specs.Float.{nan, binary32}
 use Rattle.std.specs.Float.Ieee.{of_int}
 use Rattle.face.specs.declared.vec.Vec2.{Vec2}
@@ -7,14 +7,13 @@ use Rattle.face.specs.declared.vec.Vec3.{Vec3}
 use Rattle.face.specs.declared.triangle.Counts.{Counts}
 use Rattle.face.specs.Lists.{each, chain}
 use Rattle.face.specs.Vec.{v2, v3, times, plus3, over2, over3, middle2, middle3}
+use Rattle.answer.specs.declared.answer.Refusal.{Refusal}
 use Rattle.answer.specs.declared.answer.Refusal.TheVariants.{Shape, Range, Empty}
 use Rattle.answer.specs.Answers.{Answer}
-use Rattle.std.specs.Prelude.{Ok, Err}
-use Rattle.answer.specs.Answers.{given, limited, after, value_of2, value_of3}
+use Rattle.answer.specs.Answers.{given, limited, after}
 use Rattle.answer.specs.Checks.{in_range2, in_range3}
 use Rattle.buffers.specs.Laying.{Buffers, four, three, two, laid}
-use Rattle.mesh.specs.declared.stored.CentroidAnswer.{CentroidAnswer}
-use Rattle.mesh.specs.declared.stored.UvCentroidAnswer.{UvCentroidAnswer}
+use Rattle.mesh.specs.declared.stored.Middle.{Middle}
 
 -- R1: lists of these lengths hold what the counts say; they may hold more
 abbrev pub holds_counts : Counts → ℕ → ℕ → ℕ → ℕ → Bool
@@ -99,10 +98,13 @@ mean_of2 t m = over2 t (of_int binary32 (pos m))
 abbrev pub centroid_answer : Counts → Buffers → Answer
 centroid_answer c B = not_empty (answer_of c true B)
 
-abbrev pub centroid_of : Counts → Buffers → CentroidAnswer
-centroid_of c B =
-    record { answer = centroid_answer c B; centroid = value_of3 (centroid_answer c B) (middle3 (points_of c.vertices.0 B.vertices)) }
+-- the middle that a done answer has
+abbrev pub middle_by : {P : Type 0} → Answer → P → Result (Middle P) Refusal
+middle_by (Ok c) p = Ok (record { counts = c; centroid = p })
+middle_by (Err e) p = Err e
 
-abbrev pub uv_centroid_of : Counts → Buffers → UvCentroidAnswer
-uv_centroid_of c B =
-    record { answer = centroid_answer c B; centroid = value_of2 (centroid_answer c B) (middle2 (uvs_of c.vertices.0 B.uvs)) }
+abbrev pub centroid_of : Counts → Buffers → Result (Middle Vec3) Refusal
+centroid_of c B = middle_by (centroid_answer c B) (middle3 (points_of c.vertices.0 B.vertices))
+
+abbrev pub uv_centroid_of : Counts → Buffers → Result (Middle Vec2) Refusal
+uv_centroid_of c B = middle_by (centroid_answer c B) (middle2 (uvs_of c.vertices.0 B.uvs))

@@ -11,16 +11,11 @@ use answer::answer::{Answer, Refusal};
 use face::triangle::Counts;
 use face::vec::{Vec2, Vec3};
 
+// A mesh's counts, and the middle of its positions or of its uvs.
 #[derive(Clone, Copy)]
-pub struct CentroidAnswer {
-    pub answer: Answer,
-    pub centroid: Vec3,
-}
-
-#[derive(Clone, Copy)]
-pub struct UvCentroidAnswer {
-    pub answer: Answer,
-    pub centroid: Vec2,
+pub struct Middle<P> {
+    pub counts: Counts,
+    pub centroid: P,
 }
 
 // Whether lists of these lengths hold what the counts say.
@@ -68,15 +63,11 @@ fn answer_of(
 fn not_empty(answer: Answer) -> Answer
     ensures { result ≡ not_empty answer }
 {
-    match answer {
-        Err(why) => Err(why),
-        Ok(counts) => {
-            if counts.vertices.0 > 0 {
-                return Ok(counts);
-            }
-            Err(Refusal::Empty)
-        }
+    let counts = answer?;
+    if counts.vertices.0 > 0 {
+        return Ok(counts);
     }
+    Err(Refusal::Empty)
 }
 
 fn stretch_point(buffer: &mut [f32], at: usize, by: Vec3)
@@ -210,21 +201,16 @@ pub fn scale(
     ensures buffers { four vertices.new normals.now uvs.now indices.now ≡ scaled counts by (four vertices.old normals.now uvs.now indices.now) }
 {
     let good = answer::check::in_range3(by);
-    let answer = answer_of(
+    let done = answer_of(
         counts,
         good,
         vertices.len(),
         normals.len(),
         uvs.len(),
         indices.len(),
-    );
-    match answer {
-        Err(why) => Err(why),
-        Ok(done) => {
-            stretch_points(vertices, done.vertices.0, by);
-            Ok(done)
-        }
-    }
+    )?;
+    stretch_points(vertices, done.vertices.0, by);
+    Ok(done)
 }
 
 // Adds to each position.
@@ -240,21 +226,16 @@ pub fn offset(
     ensures buffers { four vertices.new normals.now uvs.now indices.now ≡ shifted counts by (four vertices.old normals.now uvs.now indices.now) }
 {
     let good = answer::check::in_range3(by);
-    let answer = answer_of(
+    let done = answer_of(
         counts,
         good,
         vertices.len(),
         normals.len(),
         uvs.len(),
         indices.len(),
-    );
-    match answer {
-        Err(why) => Err(why),
-        Ok(done) => {
-            shift_points(vertices, done.vertices.0, by);
-            Ok(done)
-        }
-    }
+    )?;
+    shift_points(vertices, done.vertices.0, by);
+    Ok(done)
 }
 
 // Multiplies each uv, component by component.
@@ -270,21 +251,16 @@ pub fn texture_scale(
     ensures buffers { four vertices.now normals.now uvs.new indices.now ≡ texture_scaled counts by (four vertices.now normals.now uvs.old indices.now) }
 {
     let good = answer::check::in_range2(by);
-    let answer = answer_of(
+    let done = answer_of(
         counts,
         good,
         vertices.len(),
         normals.len(),
         uvs.len(),
         indices.len(),
-    );
-    match answer {
-        Err(why) => Err(why),
-        Ok(done) => {
-            stretch_uvs(uvs, done.vertices.0, by);
-            Ok(done)
-        }
-    }
+    )?;
+    stretch_uvs(uvs, done.vertices.0, by);
+    Ok(done)
 }
 
 fn mean3(t: Vec3, m: usize) -> Vec3
@@ -317,35 +293,22 @@ pub fn centroid(
     normals: &[f32],
     uvs: &[f32],
     indices: &[u16],
-) -> CentroidAnswer
+) -> Result<Middle<Vec3>, Refusal>
     ensures { result ≡ centroid_of counts (shown vertices normals uvs indices) }
 {
-    let answer = not_empty(answer_of(
+    let done = not_empty(answer_of(
         counts,
         true,
         vertices.len(),
         normals.len(),
         uvs.len(),
         indices.len(),
-    ));
-    match answer {
-        Err(why) => CentroidAnswer {
-            answer: Err(why),
-            centroid: Vec3 {
-                x: 0.0,
-                y: 0.0,
-                z: 0.0,
-            },
-        },
-        Ok(done) => {
-            let m = done.vertices.0;
-            let mean = mean3(sum_points(vertices, m), m);
-            CentroidAnswer {
-                answer: Ok(done),
-                centroid: mean,
-            }
-        }
-    }
+    ))?;
+    let m = done.vertices.0;
+    Ok(Middle {
+        counts: done,
+        centroid: mean3(sum_points(vertices, m), m),
+    })
 }
 
 // The same of the uvs.
@@ -355,29 +318,20 @@ pub fn uv_centroid(
     normals: &[f32],
     uvs: &[f32],
     indices: &[u16],
-) -> UvCentroidAnswer
+) -> Result<Middle<Vec2>, Refusal>
     ensures { result ≡ uv_centroid_of counts (shown vertices normals uvs indices) }
 {
-    let answer = not_empty(answer_of(
+    let done = not_empty(answer_of(
         counts,
         true,
         vertices.len(),
         normals.len(),
         uvs.len(),
         indices.len(),
-    ));
-    match answer {
-        Err(why) => UvCentroidAnswer {
-            answer: Err(why),
-            centroid: Vec2 { x: 0.0, y: 0.0 },
-        },
-        Ok(done) => {
-            let m = done.vertices.0;
-            let mean = mean2(sum_uvs(uvs, m), m);
-            UvCentroidAnswer {
-                answer: Ok(done),
-                centroid: mean,
-            }
-        }
-    }
+    ))?;
+    let m = done.vertices.0;
+    Ok(Middle {
+        counts: done,
+        centroid: mean2(sum_uvs(uvs, m), m),
+    })
 }

@@ -4,67 +4,54 @@ ghost use Rattle.answer.specs.Answers.{counts_of};
 ghost use Rattle.buffers.specs.Mesh.{none};
 ghost use Rattle.mesh.specs.Jobs.{faces_by, window_by};
 
-use answer::answer::Answer;
+use answer::answer::{Answer, Refusal};
 use face::triangle::{Counts, IndexPlace, VertexNumber};
 
+// The counts of a job, and how many faces it has.
 #[derive(Clone, Copy)]
 pub struct Faces {
-    pub answer: Answer,
+    pub counts: Counts,
     pub faces: usize,
 }
 
-// The places of one face: from the start on, as many as its size says.
+// The counts of a job, and the places of one face: from the start on, as many as its size says.
 #[derive(Clone, Copy)]
 pub struct Window {
-    pub answer: Answer,
+    pub counts: Counts,
     pub start: Counts,
     pub size: Counts,
 }
 
-fn zero() -> Counts
-    ensures { result ≡ none }
-{
-    Counts {
-        vertices: VertexNumber(0),
-        indices: IndexPlace(0),
-    }
-}
-
-pub fn faces_if_done(answer: Answer, faces: usize) -> Faces
+pub fn faces_if_done(answer: Answer, faces: usize) -> Result<Faces, Refusal>
     ensures { result ≡ faces_by answer faces }
 {
-    match answer {
-        Err(why) => Faces {
-            answer: Err(why),
-            faces: 0,
-        },
-        Ok(counts) => Faces {
-            answer: Ok(counts),
-            faces: faces,
-        },
-    }
+    let counts = answer?;
+    Ok(Faces { counts, faces })
 }
 
-pub fn window_if_done(answer: Answer, start: Counts, size: Counts) -> Window
+pub fn window_if_done(answer: Answer, start: Counts, size: Counts) -> Result<Window, Refusal>
     ensures { result ≡ window_by answer start size }
 {
-    match answer {
-        Err(why) => Window {
-            answer: Err(why),
-            start: zero(),
-            size: zero(),
-        },
-        Ok(counts) => Window {
-            answer: Ok(counts),
-            start: start,
-            size: size,
-        },
-    }
+    let counts = answer?;
+    Ok(Window {
+        counts,
+        start,
+        size,
+    })
 }
 
 // The window of a job's one face: all that the answer counts.
-pub fn window_of_all(answer: Answer) -> Window
+pub fn window_of_all(answer: Answer) -> Result<Window, Refusal>
     ensures { result ≡ window_by answer none (counts_of answer) }
 {
-    window_if_done(answer, zero(), answer::answer::counts_of(answer))
+    let counts = answer?;
+    let start = Counts {
+        vertices: VertexNumber(0),
+        indices: IndexPlace(0),
+    };
+    Ok(Window {
+        counts,
+        start,
+        size: counts,
+    })
 }

@@ -1,29 +1,11 @@
--- `uv_centroid`: the answer decides, and the sum over its number is the middle. Assumes nothing.
-use Rattle.std.proofs.Common.{◌*◌}
-use Rattle.face.specs.declared.vec.Vec2.{Vec2}
+-- `uv_centroid`: the sum over its number is the middle. Assumes nothing.
+use Rattle.std.proofs.Common.{rules, ◌*◌}
 use Rattle.face.specs.Vec.{plus2, zero2, over2}
-use Rattle.answer.specs.Answers.{Answer}
 use Rattle.buffers.specs.Laying.{four}
-use Rattle.mesh.specs.declared.stored.UvCentroidAnswer.{UvCentroidAnswer}
 use Rattle.mesh.specs.Stored.{uv_from}
-use Rattle.mesh.proofs.Moving.{kept-centre, no-centre, centred}
+use Rattle.mesh.proofs.Moving.{centred}
 use Rattle.mesh.proofs.stored.uv_centroid.Goals as goal
 
-abbrev beside : Answer → Vec2 → UvCentroidAnswer
-beside p x = record { answer = p; centroid = x }
-
-pub sum_uvs-requires : goal.sum_uvs-requires
-sum_uvs-requires c = let a = c.args in
-    (kept-centre a.counts (four a.vertices.now a.normals.now a.uvs.now a.indices.now) c.in-Ok.is c.not_empty-answer.ensures c.answer_of.ensures).room.uvs
-
-pub mean2-mean-requires : goal.mean2-mean-requires
-mean2-mean-requires c = let a = c.args in
-    (kept-centre a.counts (four a.vertices.now a.normals.now a.uvs.now a.indices.now) c.in-Ok.is c.not_empty-answer.ensures c.answer_of.ensures).limit
-
-pub returns-in-Err : goal.returns-in-Err
-returns-in-Err c = let a = c.args in
-    no-centre a.counts (four a.vertices.now a.normals.now a.uvs.now a.indices.now) beside plus2 zero2 over2 (λ j. uv_from a.uvs.now (2 * j)) c.in-Err.is c.not_empty-answer.ensures c.answer_of.ensures
-
-pub returns-in-Ok : goal.returns-in-Ok
-returns-in-Ok c = let a = c.args in
-    centred a.counts (four a.vertices.now a.normals.now a.uvs.now a.indices.now) beside plus2 zero2 over2 (λ j. uv_from a.uvs.now (2 * j)) c.in-Ok.is c.not_empty-answer.ensures c.answer_of.ensures c.sum_uvs.ensures c.mean2-mean.ensures
+pub returns : goal.returns
+returns c = let a = c.args in
+    centred a.counts (four a.vertices.now a.normals.now a.uvs.now a.indices.now) plus2 zero2 over2 (λ j. uv_from a.uvs.now (2 * j)) (search rules) c.sum_uvs.ensures c.mean2.ensures
