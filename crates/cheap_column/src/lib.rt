@@ -176,14 +176,14 @@ pub fn plan(job: CheapColumn, corners: &[f32]) -> Answer
 }
 
 // How many faces the job has, or why it is refused.
-pub fn faces(job: CheapColumn, corners: &[f32]) -> Faces
+pub fn faces(job: CheapColumn, corners: &[f32]) -> Result<Faces, Refusal>
     ensures { result ≡ faces_told job corners.now }
 {
     mesh::windows::faces_if_done(plan(job, corners), 1)
 }
 
 // The places of a face, by its number: those of all, as there is one face.
-pub fn window(job: CheapColumn, corners: &[f32], number: usize) -> Window
+pub fn window(job: CheapColumn, corners: &[f32], number: usize) -> Result<Window, Refusal>
     ensures { result ≡ window_told job corners.now number }
 {
     let answer = answer::answer::name(plan(job, corners), number, 1);

@@ -6,8 +6,10 @@ pub mod cap;
 
 ghost use Rattle.std.specs.Prelude.{◌≡◌, ◌&&◌};
 ghost use Rattle.answer.specs.Checks.{all_in_range};
+ghost use Rattle.buffers.specs.Mesh.{none};
+ghost use Rattle.buffers.specs.Laying.{laid_if_fits};
 ghost use Rattle.buffers.specs.Lent.{entering, Become};
-ghost use Rattle.plane_builder.specs.Plane.{lent, plane_mesh, laid_if_done, shape_of, place_of, planned, whole_answer, face_answer, built, faced, faces_told, window_told};
+ghost use Rattle.plane_builder.specs.Plane.{lent, plane_mesh, shape_of, place_of, planned, whole_answer, face_answer, built, faced, faces_told, window_told};
 
 use answer::answer::{Answer, Refusal};
 use face::triangle::{Counts, IndexPlace, VertexNumber};
@@ -72,23 +74,33 @@ pub fn plan(job: Plane, corners: &[f32], numbers: &[f32], marks: &[u8]) -> Answe
 }
 
 // How many faces the job has, or why it is refused.
-pub fn faces(job: Plane, corners: &[f32], numbers: &[f32], marks: &[u8]) -> Faces
+pub fn faces(
+    job: Plane,
+    corners: &[f32],
+    numbers: &[f32],
+    marks: &[u8],
+) -> Result<Faces, Refusal>
     ensures { result ≡ faces_told job (lent corners numbers marks) }
 {
     mesh::windows::faces_if_done(plan(job, corners, numbers, marks), 1)
 }
 
 // The places of a face, by its number: those of all, as there is one face.
-pub fn window(job: Plane, corners: &[f32], numbers: &[f32], marks: &[u8], number: usize) -> Window
+pub fn window(
+    job: Plane,
+    corners: &[f32],
+    numbers: &[f32],
+    marks: &[u8],
+    number: usize,
+) -> Result<Window, Refusal>
     ensures { result ≡ window_told job (lent corners numbers marks) number }
 {
     let answer = answer::answer::name(plan(job, corners, numbers, marks), number, 1);
     mesh::windows::window_of_all(answer)
 }
 
-// The one face, if the answer is that it is done.
+// The one face, from the first place on.
 fn put(
-    answer: Answer,
     job: Plane,
     corners: &[f32],
     numbers: &[f32],
@@ -98,25 +110,19 @@ fn put(
     uvs: &mut [f32],
     indices: &mut [u16],
 )
-    ensures { Become (laid_if_done answer (plane_mesh job (lent corners numbers marks))) vertices normals uvs indices }
+    ensures { Become (laid_if_fits (plane_mesh job (lent corners numbers marks)) none) vertices normals uvs indices }
 {
-    match answer {
-        Err(_) => {}
-        Ok(_) => {
-            let s = job.placement;
-            let o = placement::options::option_at(numbers, marks, job.option);
-            let stand = placement::placement::stand_by(
-                Choice3::Absent,
-                false,
-                placement::placement::settle(s, job.position),
-            );
-            let start = Counts {
-                vertices: VertexNumber(0),
-                indices: IndexPlace(0),
-            };
-            cap::put_cap(stand, corners, o, start, vertices, normals, uvs, indices);
-        }
-    }
+    let o = placement::options::option_at(numbers, marks, job.option);
+    let stand = placement::placement::stand_by(
+        Choice3::Absent,
+        false,
+        placement::placement::settle(job.placement, job.position),
+    );
+    let start = Counts {
+        vertices: VertexNumber(0),
+        indices: IndexPlace(0),
+    };
+    cap::put_cap(stand, corners, o, start, vertices, normals, uvs, indices);
 }
 
 pub fn build(
@@ -132,17 +138,17 @@ pub fn build(
     ensures answer { result ≡ whole_answer job (lent corners numbers marks) (entering vertices normals uvs indices) }
     ensures buffers { Become (built job (lent corners numbers marks)) vertices normals uvs indices }
 {
-    let answer = answer::answer::room(
+    let whole = answer::answer::room(
         plan(job, corners, numbers, marks),
         vertices.len(),
         normals.len(),
         uvs.len(),
         indices.len(),
-    );
+    )?;
     put(
-        answer, job, corners, numbers, marks, vertices, normals, uvs, indices,
+        job, corners, numbers, marks, vertices, normals, uvs, indices,
     );
-    answer
+    Ok(whole)
 }
 
 pub fn face(
@@ -159,15 +165,15 @@ pub fn face(
     ensures answer { result ≡ face_answer job (lent corners numbers marks) number (entering vertices normals uvs indices) }
     ensures buffers { Become (faced job (lent corners numbers marks) number) vertices normals uvs indices }
 {
-    let answer = answer::answer::room(
+    let done = answer::answer::room(
         answer::answer::name(plan(job, corners, numbers, marks), number, 1),
         vertices.len(),
         normals.len(),
         uvs.len(),
         indices.len(),
-    );
+    )?;
     put(
-        answer, job, corners, numbers, marks, vertices, normals, uvs, indices,
+        job, corners, numbers, marks, vertices, normals, uvs, indices,
     );
-    answer
+    Ok(done)
 }
