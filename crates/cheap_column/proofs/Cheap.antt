@@ -21,7 +21,7 @@ use Rattle.answer.specs.Answers.{Answer}
 use Rattle.std.specs.Prelude.{Ok, Err}
 use Rattle.answer.specs.Answers.{Roomy, given, limited, named, after}
 use Rattle.answer.specs.Checks.{exactly}
-use Rattle.answer.proofs.Laws.{every-at, given-done, done-limited, named-done, roomed-done}
+use Rattle.answer.proofs.Laws.{every-at, given-done, done-limited, named-done, roomed-done, after-done}
 use Rattle.buffers.specs.Mesh.{Vertex, none, measure}
 use Rattle.buffers.specs.Laying.{Buffers, four, three, two, corners, spread, laid, lay, lay_all, lay_one}
 use Rattle.buffers.proofs.Laid.{laid-append, spread-append, spread-length, spread-all, Laying, laying-done}
@@ -30,7 +30,7 @@ use Rattle.buffers.proofs.Order.{same-four}
 use Rattle.buffers.proofs.Rooms.{both}
 use Rattle.buffers.proofs.Faces.{FewIndices}
 use Rattle.cheap_column.specs.declared.CheapColumn.{CheapColumn}
-use Rattle.cheap_column.specs.CheapColumn.{outward, vertex_over, cheap_triangles, mesh_over, cheap_mesh, cheap_faces, range_of, checked, planned, whole_answer, face_answer, Roomed, Ready}
+use Rattle.cheap_column.specs.CheapColumn.{outward, vertex_over, cheap_triangles, mesh_over, cheap_mesh, cheap_faces, range_of, checked, planned, whole_answer, face_answer, built, faced, Roomed}
 
 -- ---- the plan
 module _ (job : CheapColumn) (l : List Float) where
@@ -100,29 +100,33 @@ module _ (job : CheapColumn) (l : List Float) (B : Buffers) where
       let s = rw (← p.1) at r in
       (p.0, (s.vertices, s.normals, s.uvs, s.indices))
 
-  pub whole_ready : Ready (whole_answer job l B) l B
+  pub whole_ready : (d : Counts) → whole_answer job l B ≡ Ok d → (length l ≡ 12) × Roomed B
   whole_ready d e = let r = roomed-done (planned job l) d _ _ _ _ e in ready d r.0 r.1
 
-  pub face-ready : (k : ℕ) → Ready (face_answer job l k B) l B
+  pub face-ready : (k : ℕ) (d : Counts) → face_answer job l k B ≡ Ok d → (length l ≡ 12) × Roomed B
   face-ready k d e =
       let r = roomed-done (named (planned job l) k 1) d _ _ _ _ e in
       ready d (named-done (planned job l) d k 1 r.0).0 r.1
 
   -- the one face is the whole, and the number of a face that is done is 0
-  pub whole-laid : lay_all (cheap_faces job l) none B ≡ lay (cheap_mesh job l) none B
+  all-laid : lay (cheap_mesh job l) none B ≡ lay_all (cheap_faces job l) none B
   unfolding lay_all
-  whole-laid = refl
+  all-laid = refl
+
+  pub whole-laid : (d : Counts) → whole_answer job l B ≡ Ok d → lay (cheap_mesh job l) none B ≡ built job l B
+  whole-laid d e = all-laid ∙ after-done (whole_answer job l B) B (lay_all (cheap_faces job l) none B) e
 
   first-laid : lay_one (cheap_faces job l) 0 none B ≡ lay (cheap_mesh job l) none B
   unfolding lay_one
   first-laid = refl
 
-  pub face-laid : (k : ℕ) (a : Answer) → a ≡ face_answer job l k B → after a B (lay (cheap_mesh job l) none B) ≡ after a B (lay_one (cheap_faces job l) k none B)
-  face-laid k (Err e) h = refl
-  face-laid k (Ok d) h =
-      let r = roomed-done (named (planned job l) k 1) d _ _ _ _ (sym h) in
+  pub face-laid : (k : ℕ) (d : Counts) → face_answer job l k B ≡ Ok d → lay (cheap_mesh job l) none B ≡ faced job l k B
+  face-laid k d e =
+      let r = roomed-done (named (planned job l) k 1) d _ _ _ _ e in
       let z : k ≡ 0 = omega (arith, (named-done (planned job l) d k 1 r.0).1) in
-      sym first-laid ∙ ap (λ (j : ℕ). lay_one (cheap_faces job l) j none B) (sym z)
+      sym first-laid
+      ∙ ap (λ (j : ℕ). lay_one (cheap_faces job l) j none B) (sym z)
+      ∙ after-done (face_answer job l k B) B (lay_one (cheap_faces job l) k none B) e
 
 -- a column's own tests change no answer
 pub passes : (job : CheapColumn) (l : List Float) (a : Answer) (d : Counts) → checked job l a ≡ Ok d → a ≡ Ok d

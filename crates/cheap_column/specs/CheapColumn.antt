@@ -1,20 +1,18 @@
 -- The cheap column, a job of one face; M1 to R18 are rows of docs/TRACE.md. Definitions only.
-use Rattle.std.specs.Prelude.{ℕ, ◌≤◌, ◌≡◌, Bool, ◌&&◌, List, [], ◌∷◌, ◌++◌, map, length, Float}
+use Rattle.std.specs.Prelude.{ℕ, ◌≤◌, Bool, ◌&&◌, List, [], ◌∷◌, ◌++◌, map, length, Float, Result}
 use Rattle.face.specs.declared.vec.Vec2.{Vec2}
 use Rattle.face.specs.declared.vec.Vec3.{Vec3}
 use Rattle.face.specs.declared.triangle.Triangle.{Triangle}
-use Rattle.face.specs.declared.triangle.Counts.{Counts}
 use Rattle.face.specs.Lists.{each}
 use Rattle.face.specs.Vec.{f0, minus3, upright}
 use Rattle.face.specs.Texture.{wrapped}
 use Rattle.face.specs.Triangles.{tri}
+use Rattle.answer.specs.declared.answer.Refusal.{Refusal}
 use Rattle.answer.specs.declared.answer.Refusal.TheVariants.{Shape, Range}
-use Rattle.answer.specs.Answers.{Answer}
-use Rattle.std.specs.Prelude.{Ok}
-use Rattle.answer.specs.Answers.{given, after}
+use Rattle.answer.specs.Answers.{Answer, given}
 use Rattle.answer.specs.Checks.{in_range, in_range2, all_in_range, exactly}
-use Rattle.buffers.specs.Mesh.{Vertex, Mesh, none}
-use Rattle.buffers.specs.Laying.{Buffers, lay}
+use Rattle.buffers.specs.Mesh.{Vertex, Mesh}
+use Rattle.buffers.specs.Laying.{Buffers}
 use Rattle.cheap_column.specs.declared.CheapColumn.{CheapColumn}
 use Rattle.mesh.specs.declared.windows.Faces.{Faces}
 use Rattle.mesh.specs.declared.windows.Window.{Window}
@@ -70,19 +68,12 @@ built job l = built_of (checked job l) (cheap_faces job l)
 abbrev pub faced : CheapColumn → List Float → ℕ → Buffers → Buffers
 faced job l = faced_of (checked job l) (cheap_faces job l)
 
-abbrev pub faces_told : CheapColumn → List Float → Faces
+abbrev pub faces_told : CheapColumn → List Float → Result Faces Refusal
 faces_told job l = faces_of (checked job l) (cheap_faces job l)
 
-abbrev pub window_told : CheapColumn → List Float → ℕ → Window
+abbrev pub window_told : CheapColumn → List Float → ℕ → Result Window Refusal
 window_told job l = window_of (checked job l) (cheap_faces job l)
 
--- room for all that is laid, and what a done answer says: that room, and twelve numbers
+-- room for all that is laid
 abbrev pub Roomed : Buffers → Type 0
 Roomed B = (36 ≤ length B.vertices) × (36 ≤ length B.normals) × (24 ≤ length B.uvs) × (48 ≤ length B.indices)
-
-abbrev pub Ready : Answer → List Float → Buffers → Type 0
-Ready a l B = (d : Counts) → a ≡ Ok d → (length l ≡ 12) × Roomed B
-
--- its one face laid where an answer is done
-abbrev pub cheap_if_done : Answer → CheapColumn → List Float → Buffers → Buffers
-cheap_if_done a job l B = after a B (lay (cheap_mesh job l) none B)

@@ -9,7 +9,7 @@ ghost use Rattle.buffers.specs.Mesh.{none};
 ghost use Rattle.buffers.specs.Laying.{three, two, corners, spread, laid, lay};
 ghost use Rattle.buffers.specs.Lent.{lending, entering, Become};
 ghost use Rattle.mesh.specs.Stored.{corner_from};
-ghost use Rattle.cheap_column.specs.CheapColumn.{mesh_over, cheap_triangles, range_of, planned, whole_answer, face_answer, built, faced, faces_told, window_told, Roomed, Ready, cheap_if_done};
+ghost use Rattle.cheap_column.specs.CheapColumn.{mesh_over, cheap_triangles, range_of, planned, whole_answer, face_answer, built, faced, faces_told, window_told, Roomed};
 
 use answer::answer::{Answer, Refusal};
 use face::triangle::{Counts, IndexPlace, VertexNumber};
@@ -137,28 +137,6 @@ fn put(
     put_indices(indices);
 }
 
-// The one face is laid where the answer is done.
-fn put_if_done(
-    found: Answer,
-    job: CheapColumn,
-    corners: &[f32],
-    vertices: &mut [f32],
-    normals: &mut [f32],
-    uvs: &mut [f32],
-    indices: &mut [u16],
-)
-    requires { Ready found corners.now (lending vertices normals uvs indices) }
-    ensures { Become (cheap_if_done found job corners.now) vertices normals uvs indices }
-{
-    match found {
-        Err(_) => {}
-        Ok(_) => {
-            let cs = corners_of(corners);
-            put(job, cs, vertices, normals, uvs, indices);
-        }
-    }
-}
-
 // The counts of the job, or why it is refused.
 pub fn plan(job: CheapColumn, corners: &[f32]) -> Answer
     ensures { result ≡ planned job corners.now }
@@ -201,15 +179,22 @@ pub fn build(
     ensures answer { result ≡ whole_answer job corners.now (entering vertices normals uvs indices) }
     ensures buffers { Become (built job corners.now) vertices normals uvs indices }
 {
-    let answer = answer::answer::room(
+    let whole = answer::answer::room(
         plan(job, corners),
         vertices.len(),
         normals.len(),
         uvs.len(),
         indices.len(),
+    )?;
+    put(
+        job,
+        corners_of(corners),
+        vertices,
+        normals,
+        uvs,
+        indices,
     );
-    put_if_done(answer, job, corners, vertices, normals, uvs, indices);
-    answer
+    Ok(whole)
 }
 
 // The one face of the job, whose number is 0.
@@ -225,13 +210,20 @@ pub fn face(
     ensures answer { result ≡ face_answer job corners.now number (entering vertices normals uvs indices) }
     ensures buffers { Become (faced job corners.now number) vertices normals uvs indices }
 {
-    let answer = answer::answer::room(
+    let whole = answer::answer::room(
         answer::answer::name(plan(job, corners), number, 1),
         vertices.len(),
         normals.len(),
         uvs.len(),
         indices.len(),
+    )?;
+    put(
+        job,
+        corners_of(corners),
+        vertices,
+        normals,
+        uvs,
+        indices,
     );
-    put_if_done(answer, job, corners, vertices, normals, uvs, indices);
-    answer
+    Ok(whole)
 }

@@ -121,7 +121,7 @@ pub fn merge(
     ensures answer { result ≡ merge_answer source (shown svertices snormals suvs sindices) target (entering vertices normals uvs indices) }
     ensures buffers { Become (merged source (shown svertices snormals suvs sindices) target) vertices normals uvs indices }
 {
-    let answer = answer_of(
+    let whole = answer_of(
         source,
         svertices.len(),
         snormals.len(),
@@ -132,15 +132,9 @@ pub fn merge(
         normals.len(),
         uvs.len(),
         indices.len(),
+    )?;
+    append(
+        source, svertices, snormals, suvs, sindices, target, vertices, normals, uvs, indices,
     );
-    match answer {
-        Err(why) => Err(why),
-        Ok(counts) => {
-            append(
-                source, svertices, snormals, suvs, sindices, target, vertices, normals, uvs,
-                indices,
-            );
-            Ok(counts)
-        }
-    }
+    Ok(whole)
 }

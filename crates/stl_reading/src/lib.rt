@@ -151,18 +151,13 @@ pub fn read(
     ensures answer { result ≡ read_answer file.now (entering vertices normals uvs indices) }
     ensures buffers { Become (read_back file.now) vertices normals uvs indices }
 {
-    let answer = tested(
+    let counts = tested(
         file,
         vertices.len(),
         normals.len(),
         uvs.len(),
         indices.len(),
-    );
-    match answer {
-        Err(why) => Err(why),
-        Ok(counts) => {
-            unpack(file, counts.vertices.0 / 3, vertices, normals, uvs, indices);
-            Ok(counts)
-        }
-    }
+    )?;
+    unpack(file, counts.vertices.0 / 3, vertices, normals, uvs, indices);
+    Ok(counts)
 }

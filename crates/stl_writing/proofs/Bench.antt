@@ -52,8 +52,8 @@ sheet-head = refl
 pub sheet-answers : map (write_answer (counts 4 6) sheet) (184 ∷ 185 ∷ 183 ∷ 0 ∷ []) ≡ Ok (counts 4 6) ∷ Ok (counts 4 6) ∷ Err (Bytes 184) ∷ Err (Bytes 184) ∷ []
 sheet-answers = refl
 
--- what is told of it: its length beside the counts, 0 where refused; and bytes that are too few stay as they were
-pub sheet-told : map (file_answer (counts 4 6) sheet) (184 ∷ 183 ∷ []) ≡ record { answer = Ok (counts 4 6); bytes = 184 } ∷ record { answer = Err (Bytes 184); bytes = 0 } ∷ []
+-- what is told of it: its length beside the counts; and bytes that are too few stay as they were
+pub sheet-told : map (file_answer (counts 4 6) sheet) (184 ∷ 183 ∷ []) ≡ Ok (record { counts = counts 4 6; bytes = 184 }) ∷ Err (Bytes 184) ∷ []
 sheet-told = refl
 
 pub sheet-kept : written (counts 4 6) sheet (replicate 183 9) ≡ replicate 183 9

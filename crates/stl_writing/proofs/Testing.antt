@@ -22,8 +22,8 @@ use Rattle.buffers.proofs.Rooms.{both}
 use Rattle.mesh.specs.Stored.{holds_counts}
 use Rattle.mesh.proofs.Moving.{holds-room}
 use Rattle.stl.specs.File.{file_length, file_bytes}
-use Rattle.stl_writing.specs.declared.FileAnswer.{FileAnswer}
-use Rattle.stl_writing.specs.Writing.{facet_of, triangles_of, whole_triangles, length_tested, write_tested, write_answer, file_answer, written, Writes, HoldsNamed}
+use Rattle.stl_writing.specs.declared.Filed.{Filed}
+use Rattle.stl_writing.specs.Writing.{facet_of, triangles_of, whole_triangles, length_tested, write_tested, write_answer, filed_by, file_answer, written, Writes, HoldsNamed}
 
 module _ (c : Counts) (v n t : ℕ) (is : List ℕ) (l : ℕ) where
   abbrev in_order : Bool → Bool → Bool → Answer
@@ -91,23 +91,17 @@ holds_named c vs ns ts is l w =
 
 -- ---- what is told and what is written, where a test fails and where all pass
 module _ (c : Counts) (B : Buffers) (old : List ℕ) where
-  abbrev told : Answer → FileAnswer
-  told a = record { answer = a; bytes = value_of 0 a (file_length (triangles_of c)) }
-
   abbrev new : List ℕ
   new = laid old 0 (file_bytes (facet_of B) (triangles_of c))
 
   pub file-fits : {d : Counts} → write_answer c B (length old) ≡ Ok d → Writes d (length B.vertices) (length B.normals) (length B.uvs) B.indices (length old)
   file-fits {d} e = (write_done c (length B.vertices) (length B.normals) (length B.uvs) B.indices (length old) d e).1
 
-  pub file-refused : {e : Refusal} → write_answer c B (length old) ≡ Err e → (record { answer = Err e; bytes = 0 } ≡ file_answer c B (length old)) × (old ≡ written c B old)
-  file-refused e = (sym (ap told e), after-refused (write_answer c B (length old)) old new e)
-
   pub file-done : {d : Counts} {l : List ℕ} {n : ℕ} → write_answer c B (length old) ≡ Ok d → l ≡ laid old 0 (file_bytes (facet_of B) (triangles_of d)) → n ≡ file_length (triangles_of d)
-      → (record { answer = Ok d; bytes = n } ≡ file_answer c B (length old)) × (l ≡ written c B old)
+      → (Ok (record { counts = d; bytes = n }) ≡ file_answer c B (length old)) × (l ≡ written c B old)
   file-done {d} {l} {n} e p q =
       let same : c ≡ d = (write_done c (length B.vertices) (length B.normals) (length B.uvs) B.indices (length old) d e).0 in
       let there : triangles_of d ≡ triangles_of c = ap triangles_of (sym same) in (
-        ap (λ (m : ℕ). record { answer = Ok d; bytes = m }) (q ∙ ap file_length there) ∙ sym (ap told e),
+        ap (filed_by (Ok d)) (q ∙ ap file_length there) ∙ sym (ap (λ (a : Answer). filed_by a (file_length (triangles_of c))) e),
         p ∙ ap (λ (t : ℕ). laid old 0 (file_bytes (facet_of B) t)) there ∙ after-done (write_answer c B (length old)) old new e,
       )

@@ -1,17 +1,16 @@
 -- The file of a mesh, and when there is one; L2a and L2b are rows of docs/TRACE.md. Definitions only.
-use Rattle.std.specs.Prelude.{ℕ, ◌+◌, ◌*◌, ◌/◌, ◌%◌, ◌≤◌, ◌<◌, ◌≡◌, Bool, ◌&&◌, List, length, take, get_or, leb, eqb, Float}
+use Rattle.std.specs.Prelude.{ℕ, ◌+◌, ◌*◌, ◌/◌, ◌%◌, ◌≤◌, ◌<◌, ◌≡◌, Bool, ◌&&◌, List, length, take, get_or, leb, eqb, Float, Result, Ok, Err}
 use Rattle.face.specs.declared.triangle.Counts.{Counts}
+use Rattle.answer.specs.declared.answer.Refusal.{Refusal}
 use Rattle.answer.specs.declared.answer.Refusal.TheVariants.{Shape, Limit, Index, Triangles, Bytes}
-use Rattle.answer.specs.Answers.{Answer}
-use Rattle.std.specs.Prelude.{Ok}
-use Rattle.answer.specs.Answers.{Roomy, given, after, value_of}
+use Rattle.answer.specs.Answers.{Answer, Roomy, given, after}
 use Rattle.answer.specs.Checks.{every, below}
 use Rattle.buffers.specs.Laying.{Buffers, laid}
 use Rattle.buffers.specs.Lent.{Shown}
 use Rattle.mesh.specs.Stored.{holds_counts, point_from}
 use Rattle.stl.specs.declared.Facet.{Facet}
 use Rattle.stl.specs.File.{facet, file_length, file_bytes}
-use Rattle.stl_writing.specs.declared.FileAnswer.{FileAnswer}
+use Rattle.stl_writing.specs.declared.Filed.{Filed}
 
 -- the vertex that the k-th triangle names at a corner
 abbrev pub corner_of : List ℕ → ℕ → ℕ → ℕ
@@ -58,8 +57,12 @@ abbrev pub write_answer : Counts → Buffers → ℕ → Answer
 write_answer c B l = write_tested c (length B.vertices) (length B.normals) (length B.uvs) B.indices l
 
 -- L2b: the mesh's counts and the length of its file, 0 where refused
-abbrev pub file_answer : Counts → Buffers → ℕ → FileAnswer
-file_answer c B l = record { answer = write_answer c B l; bytes = value_of 0 (write_answer c B l) (file_length (triangles_of c)) }
+abbrev pub filed_by : Answer → ℕ → Result Filed Refusal
+filed_by (Ok c) n = Ok (record { counts = c; bytes = n })
+filed_by (Err e) n = Err e
+
+abbrev pub file_answer : Counts → Buffers → ℕ → Result Filed Refusal
+file_answer c B l = filed_by (write_answer c B l) (file_length (triangles_of c))
 
 -- L2a: the file at the start of the byte buffer; bytes past it, and all of them where refused, as they were
 abbrev pub written : Counts → Buffers → List ℕ → List ℕ

@@ -17,8 +17,8 @@ use stl::Facet;
 
 // What a writer is told: the mesh's counts, and how many bytes its file has.
 #[derive(Clone, Copy)]
-pub struct FileAnswer {
-    pub answer: Answer,
+pub struct Filed {
+    pub counts: Counts,
     pub bytes: usize,
 }
 
@@ -172,30 +172,22 @@ pub fn write(
     uvs: &[f32],
     indices: &[u16],
     bytes: &mut [u8],
-) -> FileAnswer
+) -> Result<Filed, Refusal>
     ensures answer { result ≡ file_answer counts (shown vertices normals uvs indices) (length bytes.old) }
     ensures bytes { bytes.new ≡ written counts (shown vertices normals uvs indices) bytes.old }
 {
-    let answer = tested(
+    let mesh = tested(
         counts,
         vertices.len(),
         normals.len(),
         uvs.len(),
         indices,
         bytes.len(),
-    );
-    match answer {
-        Err(why) => FileAnswer {
-            answer: Err(why),
-            bytes: 0,
-        },
-        Ok(mesh) => {
-            let triangles = (mesh.indices.0 / 3) as u32;
-            put_file(vertices, normals, indices, triangles, bytes);
-            FileAnswer {
-                answer: Ok(mesh),
-                bytes: stl::file_length(triangles),
-            }
-        }
-    }
+    )?;
+    let triangles = (mesh.indices.0 / 3) as u32;
+    put_file(vertices, normals, indices, triangles, bytes);
+    Ok(Filed {
+        counts: mesh,
+        bytes: stl::file_length(triangles),
+    })
 }

@@ -1,21 +1,21 @@
--- `build`: the plan, then the room, then the one face. Assumes nothing.
-use mathlib.Core.Path.{◌≡◌, sym, ap₂, ◌∙◌, subst}
-use Rattle.answer.specs.Answers.{Answer}
-use Rattle.answer.specs.Answers.{after}
-use Rattle.buffers.specs.Laying.{Buffers, four}
-use Rattle.cheap_column.specs.CheapColumn.{whole_answer, Ready}
+-- `build`: a done answer has room, and the one face is what it leaves. Assumes nothing.
+use Rattle.std.proofs.Common.{rules, ap, ◌∙◌, List}
+use Rattle.face.specs.declared.vec.Vec2.{Vec2}
+use Rattle.buffers.specs.Mesh.{none}
+use Rattle.buffers.specs.Laying.{four, lay}
+use Rattle.cheap_column.specs.CheapColumn.{mesh_over}
 use Rattle.cheap_column.proofs.Cheap.{whole_ready, whole-laid}
 use Rattle.cheap_column.proofs.build.Goals as goal
 
-pub put_if_done-requires : goal.put_if_done-requires
-put_if_done-requires c = let a = c.args in
-    let l = a.corners.now in
-    let B = four a.vertices.now a.normals.now a.uvs.now a.indices.now in
-    let e : c.room-answer.result ≡ whole_answer a.job l B = rw c.plan.ensures at c.room-answer.ensures in
-    subst (λ (x : Answer). Ready x l B) (sym e) (whole_ready a.job l B)
+pub corners_of-requires : goal.corners_of-requires
+corners_of-requires c = let a = c.args in
+    (whole_ready a.job a.corners.now (four a.vertices.now a.normals.now a.uvs.now a.indices.now) c.in_ok-whole.whole (search rules)).0
 
-pub returns : goal.returns
-returns c = let a = c.args in
-    let l = a.corners.now in
+pub put-requires : goal.put-requires
+put-requires c = let a = c.args in
+    (whole_ready a.job a.corners.now (four a.vertices.now a.normals.now a.uvs.now a.indices.now) c.in_ok-whole.whole (search rules)).1
+
+pub returns-clause-buffers : goal.returns-clause-buffers
+returns-clause-buffers c = let a = c.args in
     let B = four a.vertices.now a.normals.now a.uvs.now a.indices.now in
-    let e : c.room-answer.result ≡ whole_answer a.job l B = rw c.plan.ensures at c.room-answer.ensures in record { answer = e; buffers = c.put_if_done.ensures ∙ ap₂ (λ (x : Answer) (y : Buffers). after x B y) e (sym (whole-laid a.job l B)) }
+    c.put.ensures ∙ ap (λ (x : List Vec2). lay (mesh_over a.job x) none B) c.corners_of.ensures ∙ whole-laid a.job a.corners.now B c.in_ok-whole.whole (search rules)
