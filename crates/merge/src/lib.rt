@@ -3,7 +3,6 @@
 #![tactic(auto)]
 
 ghost use Rattle.std.specs.Prelude.{◌≡◌, map, ℕ, ◌+◌, ◌*◌, ◌≤◌, ◌<◌, ◌^◌, length, get_or};
-ghost use Rattle.answer.specs.declared.answer.Answer.TheVariants.{Done};
 ghost use Rattle.buffers.specs.Mesh.{also};
 ghost use Rattle.buffers.specs.Laying.{laid};
 ghost use Rattle.buffers.specs.Lent.{lending, entering, Become, showing, shown};
@@ -90,7 +89,7 @@ fn append(
     uvs: &mut [f32],
     indices: &mut [u16],
 )
-    requires { merge_answer source (showing svertices snormals suvs sindices) target (lending vertices normals uvs indices) ≡ Done (also target source) }
+    requires { merge_answer source (showing svertices snormals suvs sindices) target (lending vertices normals uvs indices) ≡ Ok (also target source) }
     ensures { Become (appended source (shown svertices snormals suvs sindices) target) vertices normals uvs indices }
 {
     let b = target.vertices.0;
