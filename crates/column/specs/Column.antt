@@ -1,5 +1,5 @@
 -- A column (column_builder.rs); B1 to B19 are rows of docs/TRACE.md. Definitions only.
-use Rattle.std.specs.Prelude.{ℕ, ◌+◌, ◌*◌, Bool, true, false, cond, ◌&&◌, List, [], ◌∷◌, ◌++◌, map, length, pos, ◌==◌, slice_index_or, Float}
+use Rattle.std.specs.Prelude.{ℕ, ◌+◌, ◌*◌, Bool, true, false, cond, ◌&&◌, List, [], ◌∷◌, ◌++◌, map, length, pos, ◌==◌, slice_index_or, Float, Result}
 use Rattle.std.specs.Float.{binary32}
 use Rattle.std.specs.Float.Ieee.{of_int}
 use Rattle.face.specs.declared.vec.Vec3.{Vec3}
@@ -7,6 +7,7 @@ use Rattle.face.specs.declared.face.Quad.{Quad}
 use Rattle.face.specs.Lists.{each, chain}
 use Rattle.face.specs.Vec.{v3, f0, plus, times, over, plus3, zero3}
 use Rattle.face.specs.Face.{quad_of, altered_quad}
+use Rattle.answer.specs.declared.answer.Refusal.{Refusal}
 use Rattle.answer.specs.declared.answer.Refusal.TheVariants.{Shape, Range}
 use Rattle.answer.specs.Answers.{Answer}
 use Rattle.answer.specs.Answers.{given}
@@ -152,8 +153,8 @@ checked job ls rest = given (shape_of job ls) Shape (given (range_of job ls) Ran
 abbrev pub planned : Column → Lists → Answer
 planned job ls = planned_of (checked job ls) (column_faces job ls)
 
-abbrev pub faces_told : Column → Lists → Faces
+abbrev pub faces_told : Column → Lists → Result Faces Refusal
 faces_told job ls = faces_of (checked job ls) (column_faces job ls)
 
-abbrev pub window_told : Column → Lists → ℕ → Window
+abbrev pub window_told : Column → Lists → ℕ → Result Window Refusal
 window_told job ls = window_of (checked job ls) (column_faces job ls)

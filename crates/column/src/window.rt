@@ -3,6 +3,7 @@ ghost use Rattle.std.specs.Prelude.{◌≡◌};
 ghost use Rattle.column.specs.Column.{lent, faces_told, window_told};
 ghost use Rattle.column.specs.Names.{size_by};
 
+use answer::answer::Refusal;
 use face::triangle::Counts;
 use mesh::windows::{Faces, Window};
 
@@ -13,7 +14,7 @@ pub fn faces(
     corners: &[f32],
     numbers: &[f32],
     marks: &[u8],
-) -> Faces
+) -> Result<Faces, Refusal>
     ensures { result ≡ faces_told job (lent pairs corners numbers marks) }
 {
     let planned = crate::plan(job, pairs, corners, numbers, marks);
@@ -53,7 +54,7 @@ pub fn window(
     numbers: &[f32],
     marks: &[u8],
     number: usize,
-) -> Window
+) -> Result<Window, Refusal>
     ensures { result ≡ window_told job (lent pairs corners numbers marks) number }
 {
     let planned = crate::plan(job, pairs, corners, numbers, marks);

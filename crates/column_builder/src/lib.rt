@@ -32,22 +32,17 @@ pub fn build(
     ensures answer { result ≡ whole_answer job (lent pairs corners numbers marks) (entering vertices normals uvs indices) }
     ensures buffers { Become (built job (lent pairs corners numbers marks)) vertices normals uvs indices }
 {
-    let answer = answer::answer::room(
+    let counts = answer::answer::room(
         plan(job, pairs, corners, numbers, marks),
         vertices.len(),
         normals.len(),
         uvs.len(),
         indices.len(),
+    )?;
+    crate::laying::put_all(
+        job, pairs, corners, numbers, marks, vertices, normals, uvs, indices,
     );
-    match answer {
-        Err(why) => Err(why),
-        Ok(counts) => {
-            crate::laying::put_all(
-                job, pairs, corners, numbers, marks, vertices, normals, uvs, indices,
-            );
-            Ok(counts)
-        }
-    }
+    Ok(counts)
 }
 
 pub fn face(
@@ -77,15 +72,11 @@ pub fn face(
         uvs.len(),
         indices.len(),
     );
-    match roomed {
-        Err(why) => Err(why),
-        Ok(whole) => {
-            let name = column::names::name_of(job, number);
-            let at = column::names::start_of(job, name, numbers, marks);
-            crate::laying::put_named(
-                job, name, at, pairs, corners, numbers, marks, vertices, normals, uvs, indices,
-            );
-            Ok(whole)
-        }
-    }
+    let whole = roomed?;
+    let name = column::names::name_of(job, number);
+    let at = column::names::start_of(job, name, numbers, marks);
+    crate::laying::put_named(
+        job, name, at, pairs, corners, numbers, marks, vertices, normals, uvs, indices,
+    );
+    Ok(whole)
 }

@@ -130,9 +130,9 @@ abbrev small : Job
 small = OfColumn (column three plain option.Absent (subdivisions.Of 2)) zero_lists
 
 pub column-windows :
-    (faces_told small ≡ record { answer = Ok (counts 30 48); faces = 7 })
-    × (window_told small 5 ≡ record { answer = Ok (counts 30 48); start = counts 20 30; size = counts 4 6 })
-    × (window_told small 6 ≡ record { answer = Ok (counts 30 48); start = counts 24 36; size = counts 6 12 })
-    × (window_told small 7 ≡ record { answer = Err NoFace; start = none; size = none })
+    (faces_told small ≡ Ok (record { counts = (counts 30 48); faces = 7 }))
+    × (window_told small 5 ≡ Ok (record { counts = (counts 30 48); start = counts 20 30; size = counts 4 6 }))
+    × (window_told small 6 ≡ Ok (record { counts = (counts 30 48); start = counts 24 36; size = counts 6 12 }))
+    × (window_told small 7 ≡ Err NoFace)
 unfolding of_bits neg le column_names mesh_of Faces.quad_mesh Faces.hexagon_mesh
 column-windows = (refl, refl, refl, refl)

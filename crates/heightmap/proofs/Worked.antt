@@ -220,10 +220,10 @@ starts = (refl, refl, refl)
 
 -- the same as a caller is told it: the last side of the first cell, the cap after it, and no tenth face
 pub windows :
-    (faces_told fringed (plainly edged) ≡ record { answer = Ok (counts 40 66); faces = 9 })
-    × (window_told fringed (plainly edged) 4 ≡ record { answer = Ok (counts 40 66); start = counts 18 30; size = counts 4 6 })
-    × (window_told fringed (plainly edged) 5 ≡ record { answer = Ok (counts 40 66); start = counts 22 36; size = counts 6 12 })
-    × (window_told fringed (plainly edged) 9 ≡ record { answer = Err NoFace; start = none; size = none })
+    (faces_told fringed (plainly edged) ≡ Ok (record { counts = (counts 40 66); faces = 9 }))
+    × (window_told fringed (plainly edged) 4 ≡ Ok (record { counts = (counts 40 66); start = counts 18 30; size = counts 4 6 }))
+    × (window_told fringed (plainly edged) 5 ≡ Ok (record { counts = (counts 40 66); start = counts 22 36; size = counts 6 12 }))
+    × (window_told fringed (plainly edged) 9 ≡ Err NoFace)
 unfolding opened
 windows = (refl, refl, refl, refl)
 

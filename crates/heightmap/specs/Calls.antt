@@ -1,5 +1,6 @@
 -- What a whole build and a face call of a height map answer and leave, and what is told of its faces; R11 to R17 are rows of docs/TRACE.md. Definitions only.
-use Rattle.std.specs.Prelude.{ℕ}
+use Rattle.std.specs.Prelude.{ℕ, Result}
+use Rattle.answer.specs.declared.answer.Refusal.{Refusal}
 use Rattle.answer.specs.Answers.{Answer}
 use Rattle.buffers.specs.Laying.{Buffers}
 use Rattle.mesh.specs.declared.windows.Faces.{Faces}
@@ -26,9 +27,9 @@ abbrev pub faced : HeightMap → Lists → ℕ → Buffers → Buffers
 faced job ls = faced_of (checked job ls) (map_faces job ls)
 
 -- R16: how many faces there are
-abbrev pub faces_told : HeightMap → Lists → Faces
+abbrev pub faces_told : HeightMap → Lists → Result Faces Refusal
 faces_told job ls = faces_of (checked job ls) (map_faces job ls)
 
 -- R12, R16: the places of the k-th
-abbrev pub window_told : HeightMap → Lists → ℕ → Window
+abbrev pub window_told : HeightMap → Lists → ℕ → Result Window Refusal
 window_told job ls = window_of (checked job ls) (map_faces job ls)

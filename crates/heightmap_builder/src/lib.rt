@@ -48,23 +48,18 @@ pub fn build(
     let planned = plan(
         job, cells, neighbours, fringe, customs, corners, numbers, marks,
     );
-    let answer = answer::answer::room(
+    let counts = answer::answer::room(
         planned,
         vertices.len(),
         normals.len(),
         uvs.len(),
         indices.len(),
+    )?;
+    heightmap_laying::put_all(
+        job, cells, neighbours, fringe, customs, corners, numbers, marks, vertices, normals, uvs,
+        indices,
     );
-    match answer {
-        Err(why) => Err(why),
-        Ok(counts) => {
-            heightmap_laying::put_all(
-                job, cells, neighbours, fringe, customs, corners, numbers, marks, vertices,
-                normals, uvs, indices,
-            );
-            Ok(counts)
-        }
-    }
+    Ok(counts)
 }
 
 pub fn face(
@@ -97,16 +92,12 @@ pub fn face(
         uvs.len(),
         indices.len(),
     );
-    match roomed {
-        Err(why) => Err(why),
-        Ok(whole) => {
-            let name = found.name;
-            let at = found.start;
-            heightmap_laying::put_named(
-                job, name, at, cells, neighbours, fringe, customs, corners, numbers, marks,
-                vertices, normals, uvs, indices,
-            );
-            Ok(whole)
-        }
-    }
+    let whole = roomed?;
+    let name = found.name;
+    let at = found.start;
+    heightmap_laying::put_named(
+        job, name, at, cells, neighbours, fringe, customs, corners, numbers, marks, vertices,
+        normals, uvs, indices,
+    );
+    Ok(whole)
 }

@@ -6,7 +6,7 @@ ghost use Rattle.heightmap.specs.Calls.{faces_told, window_told};
 ghost use Rattle.heightmap_plan.specs.Finding.{sought_at};
 
 use crate::names::Found;
-use answer::answer::Answer;
+use answer::answer::{Answer, Refusal};
 use face::triangle::Counts;
 use heightmap::{HeightMap, Name};
 use mesh::windows::{Faces, Window};
@@ -21,7 +21,7 @@ pub fn faces(
     corners: &[f32],
     numbers: &[f32],
     marks: &[u8],
-) -> Faces
+) -> Result<Faces, Refusal>
     ensures { result ≡ faces_told job (lent cells neighbours fringe customs corners numbers marks) }
 {
     let all = crate::tally::tally_all(job, cells, neighbours, fringe, customs, numbers, marks);
@@ -107,7 +107,7 @@ pub fn window(
     numbers: &[f32],
     marks: &[u8],
     number: usize,
-) -> Window
+) -> Result<Window, Refusal>
     ensures { result ≡ window_told job (lent cells neighbours fringe customs corners numbers marks) number }
 {
     let s = seek(

@@ -1,11 +1,10 @@
 -- Why a wall of a height map is there or is not, and which face a number is, as an operator is told; L3a to L3d are rows of
 -- docs/TRACE.md. Definitions only.
-use Rattle.std.specs.Prelude.{ℕ, Float}
+use Rattle.std.specs.Prelude.{ℕ, Float, Result, Ok, Err}
 use Rattle.face.specs.declared.triangle.Counts.{Counts}
 use Rattle.face.specs.Vec.{f0}
-use Rattle.answer.specs.Answers.{Answer}
-use Rattle.std.specs.Prelude.{Ok, Err}
-use Rattle.answer.specs.Answers.{limited, named}
+use Rattle.answer.specs.declared.answer.Refusal.{Refusal}
+use Rattle.answer.specs.Answers.{Answer, limited, named}
 use Rattle.heightmap.specs.declared.Wall.{Wall}
 use Rattle.heightmap.specs.declared.Wall.TheVariants as wall
 use Rattle.heightmap.specs.declared.Name.{Name}
@@ -18,10 +17,19 @@ use Rattle.heightmap.specs.Names.{name_at, number_of}
 use Rattle.heightmap_plan.specs.Finding.{numbered}
 use Rattle.heightmap_why.specs.declared.Reason.{Reason}
 use Rattle.heightmap_why.specs.declared.Reason.TheVariants as reason
-use Rattle.heightmap_why.specs.declared.WhyAnswer.{WhyAnswer}
-use Rattle.heightmap_why.specs.declared.WhyAnswer.TheVariants as why
-use Rattle.heightmap_why.specs.declared.WhichAnswer.{WhichAnswer}
-use Rattle.heightmap_why.specs.declared.WhichAnswer.TheVariants as which
+
+-- a reason and a face as they are told, beside the plan's counts; or a refusal
+abbrev pub WhyAnswer : Type 0
+WhyAnswer = Result (Counts × Reason) Refusal
+
+abbrev pub because : Counts → Reason → WhyAnswer
+because c r = Ok (c, r)
+
+abbrev pub WhichAnswer : Type 0
+WhichAnswer = Result (Counts × Name) Refusal
+
+abbrev pub names : Counts → Name → WhichAnswer
+names c n = Ok (c, n)
 
 -- ---- L3a: a wall as it is told: one that is there by its face number
 abbrev pub reason_by : Wall → ℕ → Reason
@@ -46,16 +54,16 @@ side_tested job ls c k d = side_named ls (checked job ls (limited c)) k d
 
 -- L3a, L3c: done, with the plan's counts
 abbrev pub why_by : Answer → Reason → WhyAnswer
-why_by (Err e) r = why.Refused e
-why_by (Ok c) r = why.Because c r
+why_by (Err e) r = Err e
+why_by (Ok c) r = because c r
 
 abbrev pub why_told : HeightMap → Lists → ℕ → ℕ → WhyAnswer
 why_told job ls k d = why_by (side_answer job ls k d) (reason_of job ls.grid k d)
 
 -- L3b, L3c: the plan's refusals, then 6 for a face that is not there; done, with the plan's counts
 abbrev pub which_by : Answer → Name → WhichAnswer
-which_by (Err e) n = which.Refused e
-which_by (Ok c) n = which.Named c n
+which_by (Err e) n = Err e
+which_by (Ok c) n = names c n
 
 abbrev pub which_told : HeightMap → Lists → ℕ → WhichAnswer
 which_told job ls i = which_by (numbered job ls i) (name_at job ls.grid i)

@@ -6,7 +6,7 @@ ghost use Rattle.std.specs.Prelude.{◌≡◌, cond, ltb};
 ghost use Rattle.heightmap.specs.HeightMap.{lent};
 ghost use Rattle.heightmap_plan.specs.Finding.{cell_of};
 ghost use Rattle.heightmap_why.specs.Why.{reason_by, reason_code, reason_height, reason_face, kind_code, side_told};
-ghost use Rattle.heightmap_why.specs.Why.{side_tested, why_by, which_by, why_told, which_told};
+ghost use Rattle.heightmap_why.specs.Why.{side_tested, why_told, which_told};
 
 use answer::answer::{Answer, Refusal};
 use face::triangle::Counts;
@@ -22,19 +22,11 @@ pub enum Reason {
     Present(usize),
 }
 
-// A refusal, or the plan's counts and the reason.
-#[derive(Clone, Copy)]
-pub enum WhyAnswer {
-    Refused(Refusal),
-    Because(Counts, Reason),
-}
+// The plan's counts and the reason, or a refusal.
+pub type WhyAnswer = Result<(Counts, Reason), Refusal>;
 
-// A refusal, or the plan's counts and the face.
-#[derive(Clone, Copy)]
-pub enum WhichAnswer {
-    Refused(Refusal),
-    Named(Counts, Name),
-}
+// The plan's counts and the face, or a refusal.
+pub type WhichAnswer = Result<(Counts, Name), Refusal>;
 
 // The number of a reason.
 pub fn reason_code(reason: Reason) -> u32
@@ -113,24 +105,6 @@ fn reason_by(wall: Wall, number: usize) -> Reason
     }
 }
 
-fn why_by(answer: Answer, reason: Reason) -> WhyAnswer
-    ensures { result ≡ why_by answer reason }
-{
-    match answer {
-        Err(refusal) => WhyAnswer::Refused(refusal),
-        Ok(counts) => WhyAnswer::Because(counts, reason),
-    }
-}
-
-fn which_by(answer: Answer, name: Name) -> WhichAnswer
-    ensures { result ≡ which_by answer name }
-{
-    match answer {
-        Err(refusal) => WhichAnswer::Refused(refusal),
-        Ok(counts) => WhichAnswer::Named(counts, name),
-    }
-}
-
 // A side that is not there is read as the first, and refused.
 fn side_in(side: usize) -> u8
     ensures { result ≡ cond (ltb side 6) side 0 }
@@ -195,11 +169,11 @@ pub fn why(
     );
     let all = s.all;
     let counts = all.counts;
-    let answer = test_side(
+    let counts = test_side(
         job, counts, cells, neighbours, fringe, customs, corners, numbers, marks, cell, side,
-    );
+    )?;
     let wall = heightmap::grid::wall_at(sides, how, cells, neighbours, fringe, cell, d);
-    why_by(answer, reason_by(wall, s.number))
+    Ok((counts, reason_by(wall, s.number)))
 }
 
 // The face of a number, with the plan's counts.
@@ -219,8 +193,6 @@ pub fn which(
     let s = heightmap_plan::window::seek(
         job, number, cells, neighbours, fringe, customs, corners, numbers, marks,
     );
-    let answer = s.answer;
-    let found = s.found;
-    let name = found.name;
-    which_by(answer, name)
+    let counts = s.answer?;
+    Ok((counts, s.found.name))
 }
