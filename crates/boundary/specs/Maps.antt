@@ -1,23 +1,16 @@
 -- What a height map's calls answer and leave to a caller from C: a fringe that means nothing is refused as 1, before all
 -- else. Definitions only.
-use Rattle.std.specs.Prelude.{ℕ, cond}
+use Rattle.std.specs.Prelude.{ℕ, cond, Result, Err}
+use Rattle.answer.specs.declared.answer.Refusal.{Refusal}
 use Rattle.answer.specs.declared.answer.Refusal.TheVariants.{Shape}
-use Rattle.answer.specs.Answers.{Answer}
-use Rattle.std.specs.Prelude.{Err}
-use Rattle.answer.specs.Answers.{given}
-use Rattle.buffers.specs.Mesh.{none}
+use Rattle.answer.specs.Answers.{Answer, given}
 use Rattle.buffers.specs.Laying.{Buffers}
 use Rattle.mesh.specs.declared.windows.Faces.{Faces}
 use Rattle.mesh.specs.declared.windows.Window.{Window}
-use Rattle.mesh.specs.Jobs.{faces_by, window_by}
 use Rattle.heightmap.specs.HeightMap.{Lists}
 use Rattle.heightmap.specs.Tests.{planned}
 use Rattle.heightmap.specs.Calls.{whole_answer, face_answer, built, faced, faces_told, window_told}
-use Rattle.heightmap_why.specs.declared.WhyAnswer.{WhyAnswer}
-use Rattle.heightmap_why.specs.declared.WhyAnswer.TheVariants as why
-use Rattle.heightmap_why.specs.declared.WhichAnswer.{WhichAnswer}
-use Rattle.heightmap_why.specs.declared.WhichAnswer.TheVariants as which
-use Rattle.heightmap_why.specs.Why.{why_told, which_told}
+use Rattle.heightmap_why.specs.Why.{WhyAnswer, WhichAnswer, why_told, which_told}
 use Rattle.boundary.specs.declared.jobs.CHeightMap.{CHeightMap}
 use Rattle.boundary.specs.FromC.{is_fringe, height_map_of}
 
@@ -41,15 +34,15 @@ map_built job ls B = cond (is_fringe job.fringe) (built (height_map_of job) ls B
 abbrev pub map_faced : CHeightMap → Lists → ℕ → Buffers → Buffers
 map_faced job ls k B = cond (is_fringe job.fringe) (faced (height_map_of job) ls k B) B
 
-abbrev pub map_faces_told : CHeightMap → Lists → Faces
-map_faces_told job ls = cond (is_fringe job.fringe) (faces_told (height_map_of job) ls) (faces_by (Err Shape) 0)
+abbrev pub map_faces_told : CHeightMap → Lists → Result Faces Refusal
+map_faces_told job ls = cond (is_fringe job.fringe) (faces_told (height_map_of job) ls) (Err Shape)
 
-abbrev pub map_window_told : CHeightMap → Lists → ℕ → Window
-map_window_told job ls k = cond (is_fringe job.fringe) (window_told (height_map_of job) ls k) (window_by (Err Shape) none none)
+abbrev pub map_window_told : CHeightMap → Lists → ℕ → Result Window Refusal
+map_window_told job ls k = cond (is_fringe job.fringe) (window_told (height_map_of job) ls k) (Err Shape)
 
 -- L3c
 abbrev pub map_why_told : CHeightMap → Lists → ℕ → ℕ → WhyAnswer
-map_why_told job ls k d = cond (is_fringe job.fringe) (why_told (height_map_of job) ls k d) (why.Refused Shape)
+map_why_told job ls k d = cond (is_fringe job.fringe) (why_told (height_map_of job) ls k d) (Err Shape)
 
 abbrev pub map_which_told : CHeightMap → Lists → ℕ → WhichAnswer
-map_which_told job ls i = cond (is_fringe job.fringe) (which_told (height_map_of job) ls i) (which.Refused Shape)
+map_which_told job ls i = cond (is_fringe job.fringe) (which_told (height_map_of job) ls i) (Err Shape)

@@ -4,12 +4,12 @@ ghost use Rattle.std.specs.Prelude.{◌≡◌};
 ghost use Rattle.boundary.specs.ToC.{answer_to_c, point_to_c, point3_to_c, centroid_to_c, uv_centroid_to_c, faces_to_c, window_to_c, file_to_c, why_to_c, which_to_c};
 
 use crate::from_c::{CVec2, CVec3};
-use answer::answer::Answer;
+use answer::answer::{Answer, Refusal};
 use face::vec::{Vec2, Vec3};
 use heightmap_why::{WhichAnswer, WhyAnswer};
-use mesh::stored::{CentroidAnswer, UvCentroidAnswer};
+use mesh::stored::Middle;
 use mesh::windows::{Faces, Window};
-use stl_writing::FileAnswer;
+use stl_writing::Filed;
 
 #[repr(C)]
 #[derive(Clone, Copy)]
@@ -106,62 +106,88 @@ pub(crate) fn point3_to_c(p: Vec3) -> CVec3
     }
 }
 
-pub fn centroid_to_c(c: CentroidAnswer) -> CCentroid
-    ensures { result ≡ centroid_to_c c }
+pub fn centroid_to_c(told: Result<Middle<Vec3>, Refusal>) -> CCentroid
+    ensures { result ≡ centroid_to_c told }
 {
-    let inner = c.answer;
-    let answer = answer_to_c(inner);
-    let centroid = point3_to_c(c.centroid);
-    CCentroid {
-        answer: answer,
-        centroid: centroid,
+    match told {
+        Ok(middle) => CCentroid {
+            answer: answer_to_c(Ok(middle.counts)),
+            centroid: point3_to_c(middle.centroid),
+        },
+        Err(why) => CCentroid {
+            answer: answer_to_c(Err(why)),
+            centroid: CVec3 {
+                x: 0.0,
+                y: 0.0,
+                z: 0.0,
+            },
+        },
     }
 }
 
-pub fn uv_centroid_to_c(c: UvCentroidAnswer) -> CUvCentroid
-    ensures { result ≡ uv_centroid_to_c c }
+pub fn uv_centroid_to_c(told: Result<Middle<Vec2>, Refusal>) -> CUvCentroid
+    ensures { result ≡ uv_centroid_to_c told }
 {
-    let inner = c.answer;
-    let answer = answer_to_c(inner);
-    let centroid = point_to_c(c.centroid);
-    CUvCentroid {
-        answer: answer,
-        centroid: centroid,
+    match told {
+        Ok(middle) => CUvCentroid {
+            answer: answer_to_c(Ok(middle.counts)),
+            centroid: point_to_c(middle.centroid),
+        },
+        Err(why) => CUvCentroid {
+            answer: answer_to_c(Err(why)),
+            centroid: CVec2 { x: 0.0, y: 0.0 },
+        },
     }
 }
 
-pub fn faces_to_c(told: Faces) -> CFaces
+pub fn faces_to_c(told: Result<Faces, Refusal>) -> CFaces
     ensures { result ≡ faces_to_c told }
 {
-    let inner = told.answer;
-    CFaces {
-        answer: answer_to_c(inner),
-        faces: told.faces,
+    match told {
+        Ok(told) => CFaces {
+            answer: answer_to_c(Ok(told.counts)),
+            faces: told.faces,
+        },
+        Err(why) => CFaces {
+            answer: answer_to_c(Err(why)),
+            faces: 0,
+        },
     }
 }
 
-pub fn window_to_c(told: Window) -> CWindow
+pub fn window_to_c(told: Result<Window, Refusal>) -> CWindow
     ensures { result ≡ window_to_c told }
 {
-    let inner = told.answer;
-    let start = told.start;
-    let size = told.size;
-    CWindow {
-        answer: answer_to_c(inner),
-        first_vertex: start.vertices.0,
-        first_index: start.indices.0,
-        vertices: size.vertices.0,
-        indices: size.indices.0,
+    match told {
+        Ok(window) => CWindow {
+            answer: answer_to_c(Ok(window.counts)),
+            first_vertex: window.start.vertices.0,
+            first_index: window.start.indices.0,
+            vertices: window.size.vertices.0,
+            indices: window.size.indices.0,
+        },
+        Err(why) => CWindow {
+            answer: answer_to_c(Err(why)),
+            first_vertex: 0,
+            first_index: 0,
+            vertices: 0,
+            indices: 0,
+        },
     }
 }
 
-pub fn file_to_c(told: FileAnswer) -> CFile
+pub fn file_to_c(told: Result<Filed, Refusal>) -> CFile
     ensures { result ≡ file_to_c told }
 {
-    let inner = told.answer;
-    CFile {
-        answer: answer_to_c(inner),
-        bytes: told.bytes,
+    match told {
+        Ok(filed) => CFile {
+            answer: answer_to_c(Ok(filed.counts)),
+            bytes: filed.bytes,
+        },
+        Err(why) => CFile {
+            answer: answer_to_c(Err(why)),
+            bytes: 0,
+        },
     }
 }
 
@@ -169,17 +195,17 @@ pub fn why_to_c(told: WhyAnswer) -> CWhy
     ensures { result ≡ why_to_c told }
 {
     match told {
-        WhyAnswer::Refused(why) => CWhy {
-            answer: answer_to_c(Err(why)),
-            reason: 0,
-            height: 0.0,
-            face: 0,
-        },
-        WhyAnswer::Because(counts, reason) => CWhy {
+        Ok((counts, reason)) => CWhy {
             answer: answer_to_c(Ok(counts)),
             reason: heightmap_why::reason_code(reason),
             height: heightmap_why::reason_height(reason),
             face: heightmap_why::reason_face(reason),
+        },
+        Err(why) => CWhy {
+            answer: answer_to_c(Err(why)),
+            reason: 0,
+            height: 0.0,
+            face: 0,
         },
     }
 }
@@ -188,17 +214,17 @@ pub fn which_to_c(told: WhichAnswer) -> CWhich
     ensures { result ≡ which_to_c told }
 {
     match told {
-        WhichAnswer::Refused(why) => CWhich {
-            answer: answer_to_c(Err(why)),
-            kind: 0,
-            side: 0,
-            cell: 0,
-        },
-        WhichAnswer::Named(counts, name) => CWhich {
+        Ok((counts, name)) => CWhich {
             answer: answer_to_c(Ok(counts)),
             kind: heightmap_why::kind_code(name),
             side: heightmap_why::side_of(name),
             cell: heightmap_why::cell_of(name),
+        },
+        Err(why) => CWhich {
+            answer: answer_to_c(Err(why)),
+            kind: 0,
+            side: 0,
+            cell: 0,
         },
     }
 }

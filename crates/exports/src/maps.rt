@@ -7,10 +7,9 @@ ghost use Rattle.heightmap.specs.HeightMap.{lent};
 ghost use Rattle.boundary.specs.Maps.{map_planned, map_whole, map_face, map_built, map_faced, map_faces_told, map_window_told, map_why_told, map_which_told};
 ghost use Rattle.boundary.specs.ToC.{answer_to_c, faces_to_c, window_to_c, why_to_c, which_to_c};
 
-use answer::answer::{Answer, Refusal};
+use answer::answer::Refusal;
 use boundary::jobs::CHeightMap;
 use boundary::to_c::{CAnswer, CFaces, CWhich, CWhy, CWindow};
-use heightmap_why::{WhichAnswer, WhyAnswer};
 
 // The counts of the job, or why it is refused.
 pub fn hosirekar_heightmap_plan(
@@ -65,8 +64,7 @@ pub fn hosirekar_heightmap_faces(
             marks,
         ));
     }
-    let refused = Err(Refusal::Shape);
-    boundary::to_c::faces_to_c(mesh::windows::faces_if_done(refused, 0))
+    boundary::to_c::faces_to_c(Err(Refusal::Shape))
 }
 
 // The places of one face of the job, by its number, or why there are none.
@@ -96,8 +94,7 @@ pub fn hosirekar_heightmap_window(
             number,
         ));
     }
-    let refused = Err(Refusal::Shape);
-    boundary::to_c::window_to_c(mesh::windows::window_of_all(refused))
+    boundary::to_c::window_to_c(Err(Refusal::Shape))
 }
 
 // Why a side of a cell is there or is not: 1 sides are off, 2 no neighbour and no fringe height, 3 the neighbour or the
@@ -130,7 +127,7 @@ pub fn hosirekar_heightmap_why(
             side,
         ));
     }
-    boundary::to_c::why_to_c(WhyAnswer::Refused(Refusal::Shape))
+    boundary::to_c::why_to_c(Err(Refusal::Shape))
 }
 
 // Which face a number is: 1 the cap of a cell, 2 a side of a cell.
@@ -160,7 +157,7 @@ pub fn hosirekar_heightmap_which(
             number,
         ));
     }
-    boundary::to_c::which_to_c(WhichAnswer::Refused(Refusal::Shape))
+    boundary::to_c::which_to_c(Err(Refusal::Shape))
 }
 
 // The whole job, written to four buffers, or nothing.

@@ -32,11 +32,15 @@ use Rattle.heightmap_why.proofs.Law.{has_named, named-has, present-named, named-
 -- ---- an answer that tells something is done
 because-done : {c : Counts} {r : Reason} (a : Answer) (s : Reason) → why_by a s ≡ because c r → (a ≡ Ok c) × (r ≡ s)
 because-done (Err e) s p = absurd (let z : ◌≡◌ {A = ℕ} 0 1 = cc in omega arith)
-because-done (Ok b) s p = (cc, cc)
+because-done {c} {r} (Ok b) s p =
+    let q : ◌≡◌ {A = Counts × Reason} (b, s) (c, r) = cc in
+    (ap (λ (x : Counts × Reason). let a : Answer = Ok x.0 in a) q, sym (ap (λ (x : Counts × Reason). x.1) q))
 
 named-so : {c : Counts} {n : Name} (a : Answer) (m : Name) → which_by a m ≡ names c n → (a ≡ Ok c) × (m ≡ n)
 named-so (Err e) m p = absurd (let z : ◌≡◌ {A = ℕ} 0 1 = cc in omega arith)
-named-so (Ok b) m p = (cc, cc)
+named-so {c} {n} (Ok b) m p =
+    let q : ◌≡◌ {A = Counts × Name} (b, m) (c, n) = cc in
+    (ap (λ (x : Counts × Name). let a : Answer = Ok x.0 in a) q, ap (λ (x : Counts × Name). x.1) q)
 
 -- ---- what the two calls tell
 module _ (job : HeightMap) (ls : Lists) where

@@ -163,17 +163,26 @@ pub fn why(
 {
     let d = side_in(side);
     let sides = job.sides;
-    let how = job.fringe;
-    let s = heightmap_plan::names::survey_side(
+    let placed = heightmap_plan::names::survey_side(
         job, cell, d, cells, neighbours, fringe, customs, numbers, marks,
     );
-    let all = s.all;
-    let counts = all.counts;
     let counts = test_side(
-        job, counts, cells, neighbours, fringe, customs, corners, numbers, marks, cell, side,
+        job,
+        placed.all.counts,
+        cells,
+        neighbours,
+        fringe,
+        customs,
+        corners,
+        numbers,
+        marks,
+        cell,
+        side,
     )?;
-    let wall = heightmap::grid::wall_at(sides, how, cells, neighbours, fringe, cell, d);
-    Ok((counts, reason_by(wall, s.number)))
+    let wall = heightmap::grid::wall_at(
+        sides, job.fringe, cells, neighbours, fringe, cell, d,
+    );
+    Ok((counts, reason_by(wall, placed.number)))
 }
 
 // The face of a number, with the plan's counts.

@@ -1,5 +1,0 @@
--- `window_to_c`: the answer and the places. Assumes nothing.
-use Rattle.boundary.proofs.to_c.window_to_c.Goals as goal
-
-pub returns : goal.returns
-returns c = rw c.answer_to_c.ensures
