@@ -42,6 +42,7 @@ use Rattle.column.specs.Column as column
 use Rattle.column_builder.proofs.Whole as columnLaws
 use Rattle.heightmap.specs.Tests as mapTests
 use Rattle.heightmap.proofs.Faces as mapLaws
+use Rattle.boundary.specs.ToC.{answer_to_c, faces_to_c, window_to_c}
 use Rattle.demands.specs.Job.{Job, OfCheapColumn, OfPlane, OfColumn, OfMap, faces, planned, whole_answer, face_answer, built, faced, faces_told, window_told}
 use Rattle.demands.specs.Calls.{Call, Build, Face, Merge, Scale, Offset, TextureScale, Centroid, UvCentroid, answer_of, leaves, Lengths, first, before, leaves_first, InRun, OwnFace, Other, run, OthersRefused, Among}
 
@@ -256,44 +257,41 @@ pub indices-in-faces : (job : Job) (p : ℕ) → p < (measure (faces job)).indic
 indices-in-faces job = indices-covered (faces job)
 
 -- ---- R12: how many faces an accepted job has is told, and a window is told exactly where its number is one of them
-pub faces-told : (job : Job) (c : Counts) → planned job ≡ Ok c → faces_told job ≡ record { answer = Ok c; faces = length (faces job) }
+pub faces-told : (job : Job) (c : Counts) → planned job ≡ Ok c → faces_told job ≡ Ok (record { counts = c; faces = length (faces job) })
 faces-told job c p = told_is job ∙ places.told-faces (checked job) (faces job) c (sym (planned-is job) ∙ p)
 
-pub window-told : (job : Job) (c : Counts) → planned job ≡ Ok c → (k : ℕ) → k < (faces_told job).faces
-    → window_told job k ≡ record { answer = Ok c; start = start_of (faces job) k; size = size_of (face_at (faces job) k) }
-window-told job c p k h =
-    window-is job k
-    ∙ places.told-window (checked job) (faces job) c (sym (planned-is job) ∙ p) k (rw (ap (λ (t : Faces). t.faces) (faces-told job c p)) at h)
+pub told-faces : (job : Job) (f : Faces) → faces_told job ≡ Ok f → (planned job ≡ Ok f.counts) × (f.faces ≡ length (faces job))
+told-faces job f e = let r = places.planned-told (checked job) (faces job) f (sym (told_is job) ∙ e) in (planned-is job ∙ r.0, r.1)
 
-pub done-window : (job : Job) (k : ℕ) (c : Counts) → (window_told job k).answer ≡ Ok c → (planned job ≡ Ok c) × (k < (faces_told job).faces)
-done-window job k c e =
-    let r = places.done-window (checked job) (faces job) c k (ap (λ (w : Window). w.answer) (sym (window-is job k)) ∙ e) in
+pub window-told : (job : Job) (f : Faces) → faces_told job ≡ Ok f → (k : ℕ) → k < f.faces
+    → window_told job k ≡ Ok (record { counts = f.counts; start = start_of (faces job) k; size = size_of (face_at (faces job) k) })
+window-told job f e k h =
+    let r = told-faces job f e in
+    window-is job k ∙ places.told-window (checked job) (faces job) f.counts (sym (planned-is job) ∙ r.0) k (rw r.1 at h)
+
+-- the faces that a told window has been counted among
+abbrev pub among : Job → Window → Faces
+among job w = record { counts = w.counts; faces = length (faces job) }
+
+pub done-window : (job : Job) (k : ℕ) (w : Window) → window_told job k ≡ Ok w → (planned job ≡ Ok w.counts) × (faces_told job ≡ Ok (among job w)) × (k < (among job w).faces)
+done-window job k w e =
+    let r = places.done-window (checked job) (faces job) k w (sym (window-is job k) ∙ e) in
     let p = planned-is job ∙ r.0 in
-    (p, rw (ap (λ (t : Faces). t.faces) (faces-told job c p)) r.1)
+    (p, faces-told job w.counts p, r.1)
 
--- R10: beside a refusal every number is 0
-pub nothing-told : (job : Job) (k : ℕ) (e : Refusal) → ((faces_told job).answer ≡ Err e → (faces_told job).faces ≡ 0)
-    × ((window_told job k).answer ≡ Err e → ((window_told job k).start ≡ none) × ((window_told job k).size ≡ none))
-nothing-told job k e = (
-  λ h. rw (told_is job) (ap (λ (a : Answer). (faces_by a (length (faces job))).faces) (ap (λ (t : Faces). t.answer) (sym (told_is job)) ∙ h)),
-  λ h.
-      let a : (window_of (checked job) (faces job) k).answer ≡ Err e = ap (λ (w : Window). w.answer) (sym (window-is job k)) ∙ h in
-      let s = start_of (faces job) k in
-      let z = size_of (face_at (faces job) k) in
-      (ap (λ (w : Window). w.start) (window-is job k) ∙ ap (λ (x : Answer). (window_by x s z).start) a, ap (λ (w : Window). w.size) (window-is job k) ∙ ap (λ (x : Answer). (window_by x s z).size) a),
-)
+-- R10: beside a refusal a caller from C is told 0, whatever is asked
+pub nothing-told : (job : Job) (k : ℕ) (e : Refusal) → (faces_told job ≡ Err e → faces_to_c (faces_told job) ≡ record { answer = answer_to_c (Err e); faces = 0 })
+    × (window_told job k ≡ Err e → window_to_c (window_told job k) ≡ record { answer = answer_to_c (Err e); first_vertex = 0; first_index = 0; vertices = 0; indices = 0 })
+nothing-told job k e = (ap faces_to_c, ap window_to_c)
 
 -- ---- R16, R17: a done window is from where its face starts to where the next one does, in the words of all that is said
 -- of faces here
-module _ (job : Job) (k : ℕ) (c : Counts) (e : (window_told job k).answer ≡ Ok c) where
-  abbrev window : Window
-  window = window_told job k
-
+module _ (job : Job) (k : ℕ) (window : Window) (e : window_told job k ≡ Ok window) where
   there : k < length (faces job)
-  there = rw (ap (λ (t : Faces). t.faces) (faces-told job c (done-window job k c e).0)) at (done-window job k c e).1
+  there = (done-window job k window e).2
 
-  told : window ≡ record { answer = Ok c; start = start_of (faces job) k; size = size_of (face_at (faces job) k) }
-  told = window-told job c (done-window job k c e).0 k (done-window job k c e).1
+  told : window ≡ record { counts = window.counts; start = start_of (faces job) k; size = size_of (face_at (faces job) k) }
+  told = places.same-window (sym e ∙ window-told job (among job window) (done-window job k window e).1 k there)
 
   pub window-starts : window.start ≡ start_of (faces job) k
   window-starts = ap (λ (w : Window). w.start) told
@@ -308,33 +306,33 @@ module _ (job : Job) (k : ℕ) (c : Counts) (e : (window_told job k).answer ≡ 
   pub window-alone : (B : Buffers) → AlikeOutside window.start (also window.start window.size) B (faced job k B)
   window-alone B = rw (window-ends, window-starts) (only-its-face job k B there)
 
-  pub window-filled : (B : Buffers) → RoomIn c B → Holds (face_at (faces job) k) window.start (faced job k B)
-  window-filled B r = rw window-starts (whole-face job k B c (face-is-done job c (done-window job k c e).0 k B r there))
+  pub window-filled : (B : Buffers) → RoomIn window.counts B → Holds (face_at (faces job) k) window.start (faced job k B)
+  window-filled B r = rw window-starts (whole-face job k B window.counts (face-is-done job window.counts (done-window job k window e).0 k B r there))
 
   -- the last window ends where the plan does
-  pub last-window : suc k ≡ (faces_told job).faces → also window.start window.size ≡ c
-  last-window l =
-      let p = (done-window job k c e).0 in
+  pub last-window : (f : Faces) → faces_told job ≡ Ok f → suc k ≡ f.faces → also window.start window.size ≡ window.counts
+  last-window f g l =
       window-ends
-      ∙ ap (start_of (faces job)) (l ∙ ap (λ (t : Faces). t.faces) (faces-told job c p))
+      ∙ ap (start_of (faces job)) (l ∙ (told-faces job f g).1)
       ∙ last_end (faces job)
-      ∙ (counts-are-sums job c p).1
+      ∙ (counts-are-sums job window.counts (done-window job k window e).0).1
 
 -- the first starts at nothing, and each next one where the one before it ends
-pub first-window : (job : Job) (c : Counts) → (window_told job 0).answer ≡ Ok c → (window_told job 0).start ≡ none
-first-window job c e = window-starts job 0 c e
+pub first-window : (job : Job) (w : Window) → window_told job 0 ≡ Ok w → w.start ≡ none
+first-window job w e = window-starts job 0 w e
 
-pub next-window : (job : Job) (k : ℕ) (c : Counts) → (window_told job (suc k)).answer ≡ Ok c → (window_told job (suc k)).start ≡ also (window_told job k).start (window_told job k).size
-next-window job k c e =
-    let d = done-window job (suc k) c e in
-    window-starts job (suc k) c e ∙ sym (window-ends job k c (ap (λ (w : Window). w.answer) (window-told job c d.0 k (omega (arith, d.1)))))
+pub next-window : (job : Job) (k : ℕ) (w : Window) → window_told job (suc k) ≡ Ok w → (v : Window) × (window_told job k ≡ Ok v) × (w.start ≡ also v.start v.size)
+next-window job k w e =
+    let d = done-window job (suc k) w e in
+    let v : Window = record { counts = w.counts; start = start_of (faces job) k; size = size_of (face_at (faces job) k) } in
+    let g = window-told job (among job w) d.1 k (omega (arith, d.2)) in
+    (v, g, window-starts job (suc k) w e ∙ sym (window-ends job k v g))
 
 -- so that no two meet
-pub windows-do-not-meet : (job : Job) (j k : ℕ) (c : Counts) → j < k → (window_told job j).answer ≡ Ok c → (window_told job k).answer ≡ Ok c
-    → ((also (window_told job j).start (window_told job j).size).vertices.0 ≤ (window_told job k).start.vertices.0)
-    × ((also (window_told job j).start (window_told job j).size).indices.0 ≤ (window_told job k).start.indices.0)
-windows-do-not-meet job j k c h d e =
-    rw (window-starts job j c d, window-size job j c d, window-starts job k c e) (faces-apart job j k h (there job j c d))
+pub windows-do-not-meet : (job : Job) (j k : ℕ) (v w : Window) → j < k → window_told job j ≡ Ok v → window_told job k ≡ Ok w
+    → ((also v.start v.size).vertices.0 ≤ w.start.vertices.0) × ((also v.start v.size).indices.0 ≤ w.start.indices.0)
+windows-do-not-meet job j k v w h d e =
+    rw (window-starts job j v d, window-size job j v d, window-starts job k w e) (faces-apart job j k h (there job j v d))
 
 -- ---- S4, S5: a done build leaves the one mesh of all faces, end to end, and nothing past it
 pub built-mesh : (job : Job) (B : Buffers) (c : Counts) → whole_answer job B ≡ Ok c → Holds (joined (faces job)) none (built job B)

@@ -32,8 +32,8 @@ answer_of (Merge s S t) B = merge_answer s S t B
 answer_of (Scale c by) B = stored.scale_answer c by B
 answer_of (Offset c by) B = stored.offset_answer c by B
 answer_of (TextureScale c by) B = stored.texture_scale_answer c by B
-answer_of (Centroid c) B = (stored.centroid_of c B).answer
-answer_of (UvCentroid c) B = (stored.uv_centroid_of c B).answer
+answer_of (Centroid c) B = stored.centroid_answer c B
+answer_of (UvCentroid c) B = stored.centroid_answer c B
 
 -- and what it leaves in them; to a centroid they are lent to be read alone
 abbrev pub leaves : Call → Buffers → Buffers

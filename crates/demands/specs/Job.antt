@@ -1,5 +1,6 @@
 -- Every kind of job as one; R15 and R16 are rows of docs/TRACE.md. Definitions only.
-use Rattle.std.specs.Prelude.{List, ℕ, Float}
+use Rattle.std.specs.Prelude.{List, ℕ, Float, Result}
+use Rattle.answer.specs.declared.answer.Refusal.{Refusal}
 use Rattle.answer.specs.Answers.{Answer}
 use Rattle.buffers.specs.Mesh.{Mesh}
 use Rattle.buffers.specs.Laying.{Buffers}
@@ -62,13 +63,13 @@ faced (OfPlane job ls) = plane.faced job ls
 faced (OfColumn job ls) = columnCalls.faced job ls
 faced (OfMap job ls) = mapCalls.faced job ls
 
-abbrev pub faces_told : Job → Faces
+abbrev pub faces_told : Job → Result Faces Refusal
 faces_told (OfCheapColumn job l) = cheap.faces_told job l
 faces_told (OfPlane job ls) = plane.faces_told job ls
 faces_told (OfColumn job ls) = column.faces_told job ls
 faces_told (OfMap job ls) = mapCalls.faces_told job ls
 
-abbrev pub window_told : Job → ℕ → Window
+abbrev pub window_told : Job → ℕ → Result Window Refusal
 window_told (OfCheapColumn job l) = cheap.window_told job l
 window_told (OfPlane job ls) = plane.window_told job ls
 window_told (OfColumn job ls) = column.window_told job ls

@@ -14,10 +14,10 @@ use Rattle.mesh.specs.declared.windows.Faces.{Faces}
 use Rattle.mesh.specs.declared.windows.Window.{Window}
 use Rattle.mesh.specs.Jobs.{planned_of, faces_by, window_by, faces_of, window_of}
 
-same-told : {s t : Faces} → ◌≡◌ {A = Result Faces Refusal} (Ok s) (Ok t) → s ≡ t
+pub same-told : {s t : Faces} → ◌≡◌ {A = Result Faces Refusal} (Ok s) (Ok t) → s ≡ t
 same-told p = cc
 
-same-window : {s t : Window} → ◌≡◌ {A = Result Window Refusal} (Ok s) (Ok t) → s ≡ t
+pub same-window : {s t : Window} → ◌≡◌ {A = Result Window Refusal} (Ok s) (Ok t) → s ≡ t
 same-window p = cc
 
 refused-not : {A B : Type 0} {e : Refusal} {x : A} → ◌≡◌ {A = Result A Refusal} (Err e) (Ok x) → B
