@@ -55,12 +55,12 @@ module _ (checked : Answer → Answer) (m : Mesh) (passes : (a : Answer) (d : Co
           )
 
 -- ---- of any job: a window is done exactly where the plan is and the number is a face's
-module _ (checked : Answer → Answer) (fs : List Mesh) (c : Counts) where
-  pub told-faces : planned_of checked fs ≡ Ok c → faces_of checked fs ≡ Ok (record { counts = c; faces = length fs })
-  told-faces p = ap (λ (a : Answer). faces_by a (length fs)) p
+module _ (checked : Answer → Answer) (fs : List Mesh) where
+  pub told-faces : (c : Counts) → planned_of checked fs ≡ Ok c → faces_of checked fs ≡ Ok (record { counts = c; faces = length fs })
+  told-faces c p = ap (λ (a : Answer). faces_by a (length fs)) p
 
-  pub told-window : planned_of checked fs ≡ Ok c → (k : ℕ) → k < length fs → window_of checked fs k ≡ Ok (record { counts = c; start = start_of fs k; size = size_of (face_at fs k) })
-  told-window p k h =
+  pub told-window : (c : Counts) → planned_of checked fs ≡ Ok c → (k : ℕ) → k < length fs → window_of checked fs k ≡ Ok (record { counts = c; start = start_of fs k; size = size_of (face_at fs k) })
+  told-window c p k h =
       ap (λ (a : Answer). window_by a (start_of fs k) (size_of (face_at fs k)))
       (ap (λ (a : Answer). named a k (length fs)) p ∙ ap (λ (x : Bool). given x NoFace (Ok c)) (lt-ltb k (length fs) h))
 
