@@ -2,7 +2,7 @@
 use mathlib.Core.Path.{◌≡◌, refl, sym, ap, subst, ◌∙◌}
 use mathlib.Core.Logic.{◌⊎◌, ⊎_elim, inl, inr}
 use mathlib.Core.Bool.{Bool, true, false, not, ◌&&◌, cond}
-use mathlib.Core.List.{List, [], ◌∷◌}
+use mathlib.Core.List.{List, [], ◌∷◌, ◌++◌}
 use Prim.Native.Nat.{ℕ, zero, suc, ◌+◌, ◌*◌, ◌/◌, ◌%◌, ◌≤◌, ◌<◌}
 use native.Mathlib.Nat.{le_trans, mul-le-mul, le-div_iff_mul-le, div-lt_iff_lt-mul, div-add-mod', mul_comm, add-zero, div-eq_of_eq-mul_left, mul-mod_left}
 use native.Mathlib.Numerals.{add-one}
@@ -35,25 +35,18 @@ module _ {A : Type 0} (ok : A → Bool) (xs : List A) (z : A) where
   pub passed-all : (i : ℕ) → Passed i → length xs ≤ i → true ≡ every ok xs
   passed-all i p h = rw (drop_of_length-le xs h) at p.1
 
--- ---- the same, read to the end: what passed so far and the rest decide together
-and_assoc : (a b c : Bool) → (a && b) && c ≡ a && (b && c)
-and_assoc true b c = refl
-and_assoc false b c = refl
-
-and-true : (a : Bool) → a && true ≡ a
-and-true true = refl
-and-true false = refl
-
-module _ {A : Type 0} (ok : A → Bool) (xs : List A) (z : A) where
-  abbrev pub Kept : ℕ → Bool → Type 0
-  Kept i good = (i ≤ length xs) × (good && every ok (drop i xs) ≡ every ok xs)
-
-  pub kept_more : (i : ℕ) (good next : Bool) → Kept i good → i < length xs → next ≡ good && ok (get_or xs i z) → Kept (i + 1) next
-  kept_more i good next p h e =
-      (omega arith, rw e (and_assoc good (ok (get_or xs i z)) (every ok (drop (i + 1) xs)) ∙ rw (add-one i) (rw (drop-cons xs i z h) at p.1)))
-
-  pub kept-all : (i : ℕ) (good : Bool) → Kept i good → length xs ≤ i → good ≡ every ok xs
-  kept-all i good p h = sym (and-true good) ∙ rw (drop_of_length-le xs h) at p.1
+-- ---- the same, read to the end: one more item, and its test
+pub every-push : {A : Type 0} (ok : A → Bool) (xs : List A) (x : A) → every ok (xs ++ (x ∷ [])) ≡ every ok xs && ok x
+every-push ok [] x = and-true (ok x)
+  where
+    and-true : (a : Bool) → a && true ≡ a
+    and-true true = refl
+    and-true false = refl
+every-push ok (y ∷ xs) x = rw (every-push ok xs x) (go (ok y))
+  where
+    go : (a : Bool) → a && (every ok xs && ok x) ≡ a && every ok xs && ok x
+    go true = refl
+    go false = refl
 
 pub &&-left : (a b : Bool) → a && b ≡ true → a ≡ true
 &&-left true b e = refl
