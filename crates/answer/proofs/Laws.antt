@@ -65,6 +65,13 @@ pub every-so : {A : Type 0} (ok : A → Bool) (xs : List A) (z : A) → ((i : �
 every-so ok [] z h = refl
 every-so ok (x ∷ xs) z h = rw (h 0 (omega arith), every-so ok xs z (λ i u. h (suc i) (omega arith)))
 
+-- two lists of one length, whose items pass or fail place by place
+pub every-same : {A B : Type 0} (ok : A → Bool) (also : B → Bool) (xs : List A) (ys : List B) (z : A) (w : B) → length xs ≡ length ys → ((i : ℕ) → i < length xs → ok (get_or xs i z) ≡ also (get_or ys i w)) → every ok xs ≡ every also ys
+every-same ok also [] [] z w e h = refl
+every-same ok also [] (y ∷ ys) z w e h = let g : 0 ≡ suc (length ys) = e in absurd (omega arith)
+every-same ok also (x ∷ xs) [] z w e h = let g : suc (length xs) ≡ 0 = e in absurd (omega arith)
+every-same ok also (x ∷ xs) (y ∷ ys) z w e h = rw (h 0 (omega arith), every-same ok also xs ys z w (let g : suc (length xs) ≡ suc (length ys) = e in omega arith) (λ i u. h (suc i) (omega arith)))
+
 -- ---- lengths: so many entries of k numbers each, told by a quotient
 module _ (k a b : ℕ) (p : 0 < k) where
   quotient-tells : leb a (b / k) ≡ leb (a * k) b

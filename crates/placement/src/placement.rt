@@ -3,7 +3,7 @@
 ghost use Rattle.std.specs.Prelude.{◌≡◌, ◌&&◌};
 ghost use Rattle.answer.specs.Checks.{in_range3};
 ghost use Rattle.placement.specs.Speed.{shifts_alone, shift_of};
-ghost use Rattle.placement.specs.Placing.{ones, supplied, supplied_turn, scaled, dot, turned, moved, half_turned, placed, stood, stood_normal, stand_from, stand_by, settled, choice_in_range, turn_in_range, placement_in_range};
+ghost use Rattle.placement.specs.Placing.{supplied, supplied_turn, scaled, dot, turned, moved, half_turned, placed, stood, stood_normal, stand_from, stand_by, settled, choice_in_range, turn_in_range, placement_in_range};
 
 use face::vec::{Vec2, Vec3};
 
@@ -56,15 +56,11 @@ pub struct Stand {
     pub origin: Supplied3,
 }
 
-fn ones() -> Vec3
-    ensures { result ≡ ones }
-{
-    Vec3 {
-        x: 1.0,
-        y: 1.0,
-        z: 1.0,
-    }
-}
+const ONES: Vec3 = Vec3 {
+    x: 1.0,
+    y: 1.0,
+    z: 1.0,
+};
 
 fn supply(choice: Choice3) -> Supplied3
     ensures { result ≡ supplied choice }
@@ -72,7 +68,7 @@ fn supply(choice: Choice3) -> Supplied3
     match choice {
         Choice3::Absent => Supplied3 {
             on: false,
-            by: ones(),
+            by: ONES,
         },
         Choice3::With(v) => Supplied3 { on: true, by: v },
     }
@@ -84,9 +80,9 @@ fn supply_turn(turn: Turn) -> SuppliedTurn
     match turn {
         Turn::Absent => SuppliedTurn {
             on: false,
-            first: ones(),
-            second: ones(),
-            third: ones(),
+            first: ONES,
+            second: ONES,
+            third: ONES,
         },
         Turn::Rows(a, b, c) => SuppliedTurn {
             on: true,
@@ -101,15 +97,12 @@ fn supply_turn(turn: Turn) -> SuppliedTurn
 pub fn stand_from(origin: Choice3, first: Choice3, half: bool, s: Placement) -> Stand
     ensures { result ≡ stand_from origin first half s }
 {
-    let scale = s.scale;
-    let turn = s.turn;
-    let offset = s.offset;
     Stand {
         first: supply(first),
-        half: half,
-        scale: supply(scale),
-        turn: supply_turn(turn),
-        offset: supply(offset),
+        half,
+        scale: supply(s.scale),
+        turn: supply_turn(s.turn),
+        offset: supply(s.offset),
         origin: supply(origin),
     }
 }
@@ -193,13 +186,7 @@ pub fn stand_point(t: Stand, p: Vec3) -> Vec3
 pub fn is_shift(t: Stand) -> bool
     ensures { result ≡ shifts_alone t }
 {
-    if t.half {
-        return false;
-    }
-    if t.scale.on {
-        return false;
-    }
-    !t.turn.on
+    !t.half && !t.scale.on && !t.turn.on
 }
 
 // Where a point of such a face stands.
@@ -220,19 +207,14 @@ pub fn stand_normal(t: Stand, n: Vec3) -> Vec3
 pub fn settle(s: Placement, at: Vec2) -> Placement
     ensures { result ≡ settled s at }
 {
-    let scale = s.scale;
-    let turn = s.turn;
-    let offset = s.offset;
     let spot = Vec3 {
         x: at.x,
         y: 0.0,
         z: at.y,
     };
-    let joined = move_by(supply(offset), spot);
     Placement {
-        scale: scale,
-        turn: turn,
-        offset: Choice3::With(joined),
+        offset: Choice3::With(move_by(supply(s.offset), spot)),
+        ..s
     }
 }
 
@@ -248,12 +230,7 @@ fn choice_in_range(choice: Choice3) -> bool
 fn rows_in_range(a: Vec3, b: Vec3, c: Vec3) -> bool
     ensures { result ≡ in_range3 a && (in_range3 b && in_range3 c) }
 {
-    if answer::check::in_range3(a) {
-        if answer::check::in_range3(b) {
-            return answer::check::in_range3(c);
-        }
-    }
-    false
+    answer::check::in_range3(a) && answer::check::in_range3(b) && answer::check::in_range3(c)
 }
 
 fn turn_in_range(turn: Turn) -> bool
@@ -269,13 +246,5 @@ fn turn_in_range(turn: Turn) -> bool
 pub fn placement_in_range(s: Placement) -> bool
     ensures { result ≡ placement_in_range s }
 {
-    let scale = s.scale;
-    let turn = s.turn;
-    let offset = s.offset;
-    if choice_in_range(scale) {
-        if turn_in_range(turn) {
-            return choice_in_range(offset);
-        }
-    }
-    false
+    choice_in_range(s.scale) && turn_in_range(s.turn) && choice_in_range(s.offset)
 }
