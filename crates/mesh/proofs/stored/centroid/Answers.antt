@@ -1,5 +1,5 @@
 -- `centroid`: the answer decides, and the sum over its number is the middle. Assumes nothing.
-use Rattle.std.proofs.Common.{◌*◌}
+use Rattle.std.proofs.Common.{◌*◌, rules}
 use Rattle.face.specs.declared.vec.Vec3.{Vec3}
 use Rattle.face.specs.Vec.{plus3, zero3, over3}
 use Rattle.answer.specs.declared.answer.Answer.{Answer}
@@ -12,8 +12,8 @@ use Rattle.mesh.proofs.stored.centroid.Goals as goal
 abbrev beside : Answer → Vec3 → CentroidAnswer
 beside p x = record { answer = p; centroid = x }
 
-pub sum_points-requires : goal.sum_points-requires
-sum_points-requires c = let a = c.args in
+pub sum-requires-clause-room : goal.sum-requires-clause-room
+sum-requires-clause-room c = let a = c.args in
     (kept-centre a.counts (four a.vertices.now a.normals.now a.uvs.now a.indices.now) c.in-Done.is c.not_empty-answer.ensures c.answer_of.ensures).room.vertices
 
 pub mean3-mean-requires : goal.mean3-mean-requires
@@ -26,4 +26,4 @@ returns-in-Refused c = let a = c.args in
 
 pub returns-in-Done : goal.returns-in-Done
 returns-in-Done c = let a = c.args in
-    centred a.counts (four a.vertices.now a.normals.now a.uvs.now a.indices.now) beside plus3 zero3 over3 (λ j. point_from a.vertices.now (3 * j)) c.in-Done.is c.not_empty-answer.ensures c.answer_of.ensures c.sum_points.ensures c.mean3-mean.ensures
+    centred a.counts (four a.vertices.now a.normals.now a.uvs.now a.indices.now) beside plus3 zero3 over3 (λ j. point_from a.vertices.now (3 * j)) c.in-Done.is c.not_empty-answer.ensures c.answer_of.ensures (c.sum.ensures plus3 (λ p q r k. search rules)) c.mean3-mean.ensures

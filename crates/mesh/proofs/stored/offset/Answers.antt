@@ -1,5 +1,5 @@
 -- `offset`: the answer decides, and the points are moved. Assumes nothing.
-use Rattle.std.proofs.Common.{List, ap}
+use Rattle.std.proofs.Common.{List, ap, rules}
 use lib.Ieee.{Float}
 use Rattle.face.specs.declared.vec.Vec3.{Vec3}
 use Rattle.face.specs.declared.triangle.Counts.{Counts}
@@ -13,8 +13,8 @@ use Rattle.mesh.proofs.stored.offset.Goals as goal
 abbrev new : Vec3 → Buffers → Counts → Buffers
 new by B k = four (moved_points (λ p. plus3 p by) k.vertices.0 B.vertices) B.normals B.uvs B.indices
 
-pub shift_points-requires : goal.shift_points-requires
-shift_points-requires c = let a = c.args in
+pub move_each-requires-clause-room : goal.move_each-requires-clause-room
+move_each-requires-clause-room c = let a = c.args in
     (kept a.counts (four a.vertices.now a.normals.now a.uvs.now a.indices.now) (in_range3 a.by) c.in-Done.is c.answer_of-answer.ensures c.in_range3-good.ensures).room.vertices
 
 pub returns-in-Refused : goal.returns-in-Refused
@@ -23,4 +23,4 @@ returns-in-Refused c = let a = c.args in
 
 pub returns-in-Done : goal.returns-in-Done
 returns-in-Done c = let a = c.args in
-    let B = four a.vertices.now a.normals.now a.uvs.now a.indices.now in let whole = moved a.counts B (in_range3 a.by) (new a.by B) c.in-Done.is c.answer_of-answer.ensures c.in_range3-good.ensures (ap (λ (l : List Float). four l B.normals B.uvs B.indices) c.shift_points.ensures) in record { answer = whole.0; buffers = whole.1 }
+    let B = four a.vertices.now a.normals.now a.uvs.now a.indices.now in let whole = moved a.counts B (in_range3 a.by) (new a.by B) c.in-Done.is c.answer_of-answer.ensures c.in_range3-good.ensures (ap (λ (l : List Float). four l B.normals B.uvs B.indices) (c.move_each.ensures (λ p. plus3 p a.by) (λ p q k. search rules))) in record { answer = whole.0; buffers = whole.1 }

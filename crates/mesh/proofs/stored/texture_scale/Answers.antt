@@ -1,5 +1,5 @@
 -- `texture_scale`: the answer decides, and the uvs are moved. Assumes nothing.
-use Rattle.std.proofs.Common.{List, ap}
+use Rattle.std.proofs.Common.{List, ap, rules}
 use lib.Ieee.{Float}
 use Rattle.face.specs.declared.vec.Vec2.{Vec2}
 use Rattle.face.specs.declared.triangle.Counts.{Counts}
@@ -12,8 +12,8 @@ use Rattle.mesh.proofs.stored.texture_scale.Goals as goal
 abbrev new : Vec2 → Buffers → Counts → Buffers
 new by B k = four B.vertices B.normals (moved_uvs (stretched2 by) k.vertices.0 B.uvs) B.indices
 
-pub stretch_uvs-requires : goal.stretch_uvs-requires
-stretch_uvs-requires c = let a = c.args in
+pub move_each-requires-clause-room : goal.move_each-requires-clause-room
+move_each-requires-clause-room c = let a = c.args in
     (kept a.counts (four a.vertices.now a.normals.now a.uvs.now a.indices.now) (in_range2 a.by) c.in-Done.is c.answer_of-answer.ensures c.in_range2-good.ensures).room.uvs
 
 pub returns-in-Refused : goal.returns-in-Refused
@@ -22,4 +22,4 @@ returns-in-Refused c = let a = c.args in
 
 pub returns-in-Done : goal.returns-in-Done
 returns-in-Done c = let a = c.args in
-    let B = four a.vertices.now a.normals.now a.uvs.now a.indices.now in let whole = moved a.counts B (in_range2 a.by) (new a.by B) c.in-Done.is c.answer_of-answer.ensures c.in_range2-good.ensures (ap (λ (l : List Float). four B.vertices B.normals l B.indices) c.stretch_uvs.ensures) in record { answer = whole.0; buffers = whole.1 }
+    let B = four a.vertices.now a.normals.now a.uvs.now a.indices.now in let whole = moved a.counts B (in_range2 a.by) (new a.by B) c.in-Done.is c.answer_of-answer.ensures c.in_range2-good.ensures (ap (λ (l : List Float). four B.vertices B.normals l B.indices) (c.move_each.ensures (stretched2 a.by) (λ p q k. search rules))) in record { answer = whole.0; buffers = whole.1 }

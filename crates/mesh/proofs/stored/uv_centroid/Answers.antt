@@ -1,5 +1,5 @@
 -- `uv_centroid`: the answer decides, and the sum over its number is the middle. Assumes nothing.
-use Rattle.std.proofs.Common.{◌*◌}
+use Rattle.std.proofs.Common.{◌*◌, rules}
 use Rattle.face.specs.declared.vec.Vec2.{Vec2}
 use Rattle.face.specs.Vec.{plus2, zero2, over2}
 use Rattle.answer.specs.declared.answer.Answer.{Answer}
@@ -12,8 +12,8 @@ use Rattle.mesh.proofs.stored.uv_centroid.Goals as goal
 abbrev beside : Answer → Vec2 → UvCentroidAnswer
 beside p x = record { answer = p; centroid = x }
 
-pub sum_uvs-requires : goal.sum_uvs-requires
-sum_uvs-requires c = let a = c.args in
+pub sum-requires-clause-room : goal.sum-requires-clause-room
+sum-requires-clause-room c = let a = c.args in
     (kept-centre a.counts (four a.vertices.now a.normals.now a.uvs.now a.indices.now) c.in-Done.is c.not_empty-answer.ensures c.answer_of.ensures).room.uvs
 
 pub mean2-mean-requires : goal.mean2-mean-requires
@@ -26,4 +26,4 @@ returns-in-Refused c = let a = c.args in
 
 pub returns-in-Done : goal.returns-in-Done
 returns-in-Done c = let a = c.args in
-    centred a.counts (four a.vertices.now a.normals.now a.uvs.now a.indices.now) beside plus2 zero2 over2 (λ j. uv_from a.uvs.now (2 * j)) c.in-Done.is c.not_empty-answer.ensures c.answer_of.ensures c.sum_uvs.ensures c.mean2-mean.ensures
+    centred a.counts (four a.vertices.now a.normals.now a.uvs.now a.indices.now) beside plus2 zero2 over2 (λ j. uv_from a.uvs.now (2 * j)) c.in-Done.is c.not_empty-answer.ensures c.answer_of.ensures (c.sum.ensures plus2 (λ p q r k. search rules)) c.mean2-mean.ensures
