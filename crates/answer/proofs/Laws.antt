@@ -21,21 +21,7 @@ use Rattle.answer.specs.declared.answer.Answer.TheVariants.{Done, Refused}
 use Rattle.answer.specs.Checks.{every}
 use Rattle.answer.specs.Answers.{Roomy, Short, FirstShort, Lengthened, Past, room_code, code, need, number_of, need_of, after, given, limited, named, need_for, capped, told, held, lengths, room_for, roomed}
 
--- ---- a test of each element, read one by one: the first i passed, so the rest decide
-module _ {A : Type 0} (ok : A → Bool) (xs : List A) (z : A) where
-  abbrev pub Passed : ℕ → Type 0
-  Passed i = (i ≤ length xs) × (every ok (drop i xs) ≡ every ok xs)
-
-  pub passed-more : (i : ℕ) → Passed i → i < length xs → ok (get_or xs i z) ≡ true → Passed (i + 1)
-  passed-more i p h e = (omega arith, rw (add-one i) (rw (drop-cons xs i z h, e) at p.1))
-
-  pub passed-not : (i : ℕ) → Passed i → i < length xs → ok (get_or xs i z) ≡ false → false ≡ every ok xs
-  passed-not i p h e = rw (drop-cons xs i z h, e) at p.1
-
-  pub passed-all : (i : ℕ) → Passed i → length xs ≤ i → true ≡ every ok xs
-  passed-all i p h = rw (drop_of_length-le xs h) at p.1
-
--- ---- the same, read to the end: one more item, and its test
+-- ---- a test of each element: one more item, and its test
 pub every-push : {A : Type 0} (ok : A → Bool) (xs : List A) (x : A) → every ok (xs ++ (x ∷ [])) ≡ every ok xs && ok x
 every-push ok [] x = and-true (ok x)
   where

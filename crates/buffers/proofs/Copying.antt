@@ -13,7 +13,7 @@ use borrow.Rule.Slice.PartMut.{put_mid}
 use Rattle.buffers.specs.Laying.{laid}
 
 module _ {A : Type 0} where
-  spliced : (l : List A) (at : ℕ) (xs : List A) → at + length xs ≤ length l → take at l ++ (xs ++ drop (at + length xs) l) ≡ laid l at xs
+  pub spliced : (l : List A) (at : ℕ) (xs : List A) → at + length xs ≤ length l → take at l ++ (xs ++ drop (at + length xs) l) ≡ laid l at xs
   unfolding laid
   spliced l at [] h = rw add-zero (take-append-drop at l)
   spliced l at (x ∷ xs) h =
