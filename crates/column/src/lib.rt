@@ -20,6 +20,7 @@ use face::vec::Vec2;
 use placement::options::Choice;
 use placement::placement::Placement;
 
+// An enum of our own, no `Option`: a rule of this repository.
 #[derive(Clone, Copy)]
 pub enum Subdivisions {
     Absent,

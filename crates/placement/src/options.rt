@@ -6,7 +6,7 @@ use face::inset::Inset;
 use face::uv_mapping::{Flip, UvOptions};
 use face::vec::Vec2;
 
-// The number of an option, or that the face is not there.
+// The number of an option, or that the face is not there. An enum of our own, no `Option`: a rule of this repository.
 #[derive(Clone, Copy)]
 pub enum Choice {
     Absent,

@@ -1,12 +1,12 @@
-// Where a face stands. What a job supplies is made plain numbers once, and each point of a face goes through them as
-// it is laid.
+// Where a face stands. Each of its points goes through what a job supplies as it is laid.
 ghost use Rattle.std.specs.Prelude.{◌≡◌, ◌&&◌};
 ghost use Rattle.answer.specs.Checks.{in_range3};
 ghost use Rattle.placement.specs.Speed.{shifts_alone, shift_of};
-ghost use Rattle.placement.specs.Placing.{supplied, supplied_turn, scaled, dot, turned, moved, half_turned, placed, stood, stood_normal, stand_from, stand_by, settled, choice_in_range, turn_in_range, placement_in_range};
+ghost use Rattle.placement.specs.Placing.{scaled, dot, turned, moved, half_turned, placed, stood, stood_normal, stand_from, stand_by, settled, choice_in_range, turn_in_range, placement_in_range};
 
 use face::vec::{Vec2, Vec3};
 
+// What the ported crate has as an `Option` of a job is an enum of our own: a rule of this repository.
 #[derive(Clone, Copy)]
 pub enum Choice3 {
     Absent,
@@ -28,69 +28,16 @@ pub struct Placement {
     pub offset: Choice3,
 }
 
-// A choice in plain numbers. The compiler forms the products of an absent one too and drops them, so ones stand there:
-// whatever lay there before might be subnormal, which is slow.
-#[derive(Clone, Copy)]
-pub struct Supplied3 {
-    pub on: bool,
-    pub by: Vec3,
-}
-
-#[derive(Clone, Copy)]
-pub struct SuppliedTurn {
-    pub on: bool,
-    pub first: Vec3,
-    pub second: Vec3,
-    pub third: Vec3,
-}
-
 // All that moves a face: a first offset, a half turn, scale, turn, offset and a map's origin, in this order, each if it
 // is so.
 #[derive(Clone, Copy)]
 pub struct Stand {
-    pub first: Supplied3,
+    pub first: Choice3,
     pub half: bool,
-    pub scale: Supplied3,
-    pub turn: SuppliedTurn,
-    pub offset: Supplied3,
-    pub origin: Supplied3,
-}
-
-const ONES: Vec3 = Vec3 {
-    x: 1.0,
-    y: 1.0,
-    z: 1.0,
-};
-
-fn supply(choice: Choice3) -> Supplied3
-    ensures { result ≡ supplied choice }
-{
-    match choice {
-        Choice3::Absent => Supplied3 {
-            on: false,
-            by: ONES,
-        },
-        Choice3::With(v) => Supplied3 { on: true, by: v },
-    }
-}
-
-fn supply_turn(turn: Turn) -> SuppliedTurn
-    ensures { result ≡ supplied_turn turn }
-{
-    match turn {
-        Turn::Absent => SuppliedTurn {
-            on: false,
-            first: ONES,
-            second: ONES,
-            third: ONES,
-        },
-        Turn::Rows(a, b, c) => SuppliedTurn {
-            on: true,
-            first: a,
-            second: b,
-            third: c,
-        },
-    }
+    pub scale: Choice3,
+    pub turn: Turn,
+    pub offset: Choice3,
+    pub origin: Choice3,
 }
 
 // How a face stands by a job's placement, after a first offset and a half turn of its own, and before an origin.
@@ -98,12 +45,12 @@ pub fn stand_from(origin: Choice3, first: Choice3, half: bool, s: Placement) -> 
     ensures { result ≡ stand_from origin first half s }
 {
     Stand {
-        first: supply(first),
+        first,
         half,
-        scale: supply(s.scale),
-        turn: supply_turn(s.turn),
-        offset: supply(s.offset),
-        origin: supply(origin),
+        scale: s.scale,
+        turn: s.turn,
+        offset: s.offset,
+        origin,
     }
 }
 
@@ -114,17 +61,17 @@ pub fn stand_by(first: Choice3, half: bool, s: Placement) -> Stand
     stand_from(Choice3::Absent, first, half, s)
 }
 
-fn scale_by(s: Supplied3, p: Vec3) -> Vec3
+fn scale_by(s: Choice3, p: Vec3) -> Vec3
     ensures { result ≡ scaled s p }
 {
-    if s.on {
-        return Vec3 {
-            x: p.x * s.by.x,
-            y: p.y * s.by.y,
-            z: p.z * s.by.z,
-        };
+    match s {
+        Choice3::Absent => p,
+        Choice3::With(by) => Vec3 {
+            x: p.x * by.x,
+            y: p.y * by.y,
+            z: p.z * by.z,
+        },
     }
-    p
 }
 
 fn dot(r: Vec3, p: Vec3) -> f32
@@ -133,26 +80,26 @@ fn dot(r: Vec3, p: Vec3) -> f32
     r.x * p.x + r.y * p.y + r.z * p.z
 }
 
-fn turn_by(t: SuppliedTurn, p: Vec3) -> Vec3
+fn turn_by(t: Turn, p: Vec3) -> Vec3
     ensures { result ≡ turned t p }
 {
-    if t.on {
-        return Vec3 {
-            x: dot(t.first, p),
-            y: dot(t.second, p),
-            z: dot(t.third, p),
-        };
+    match t {
+        Turn::Absent => p,
+        Turn::Rows(a, b, c) => Vec3 {
+            x: dot(a, p),
+            y: dot(b, p),
+            z: dot(c, p),
+        },
     }
-    p
 }
 
-fn move_by(s: Supplied3, p: Vec3) -> Vec3
+fn move_by(s: Choice3, p: Vec3) -> Vec3
     ensures { result ≡ moved s p }
 {
-    if s.on {
-        return face::vec::add3(p, s.by);
+    match s {
+        Choice3::Absent => p,
+        Choice3::With(by) => face::vec::add3(p, by),
     }
-    p
 }
 
 // About the axis z, exactly.
@@ -186,7 +133,10 @@ pub fn stand_point(t: Stand, p: Vec3) -> Vec3
 pub fn is_shift(t: Stand) -> bool
     ensures { result ≡ shifts_alone t }
 {
-    !t.half && !t.scale.on && !t.turn.on
+    matches!(
+        (t.half, t.scale, t.turn),
+        (false, Choice3::Absent, Turn::Absent)
+    )
 }
 
 // Where a point of such a face stands.
@@ -213,7 +163,7 @@ pub fn settle(s: Placement, at: Vec2) -> Placement
         z: at.y,
     };
     Placement {
-        offset: Choice3::With(move_by(supply(s.offset), spot)),
+        offset: Choice3::With(move_by(s.offset, spot)),
         ..s
     }
 }
