@@ -2,7 +2,7 @@
 use mathlib.Core.Path.{◌≡◌, refl, sym, ap, subst, ◌∙◌}
 use mathlib.Core.Logic.{◌⊎◌, ⊎_elim, inl, inr}
 use mathlib.Core.Bool.{Bool, true, false, not, ◌&&◌, cond}
-use mathlib.Core.List.{List, [], ◌∷◌}
+use mathlib.Core.List.{List, [], ◌∷◌, ◌++◌}
 use Prim.Native.Nat.{ℕ, zero, suc, ◌+◌, ◌*◌, ◌/◌, ◌%◌, ◌≤◌, ◌<◌}
 use native.Mathlib.Nat.{le_trans, mul-le-mul, le-div_iff_mul-le, div-lt_iff_lt-mul, div-add-mod', mul_comm, add-zero, div-eq_of_eq-mul_left, mul-mod_left}
 use native.Mathlib.Numerals.{add-one}
@@ -21,39 +21,18 @@ use Rattle.std.specs.Prelude.{Ok, Err}
 use Rattle.answer.specs.Checks.{every}
 use Rattle.answer.specs.Answers.{Roomy, Short, FirstShort, Lengthened, Past, room_code, code, need, number_of, need_of, after, given, limited, named, need_for, capped, told, held, lengths, room_for, roomed}
 
--- ---- a test of each element, read one by one: the first i passed, so the rest decide
-module _ {A : Type 0} (ok : A → Bool) (xs : List A) (z : A) where
-  abbrev pub Passed : ℕ → Type 0
-  Passed i = (i ≤ length xs) × (every ok (drop i xs) ≡ every ok xs)
-
-  pub passed-more : (i : ℕ) → Passed i → i < length xs → ok (get_or xs i z) ≡ true → Passed (i + 1)
-  passed-more i p h e = (omega arith, rw (add-one i) (rw (drop-cons xs i z h, e) at p.1))
-
-  pub passed-not : (i : ℕ) → Passed i → i < length xs → ok (get_or xs i z) ≡ false → false ≡ every ok xs
-  passed-not i p h e = rw (drop-cons xs i z h, e) at p.1
-
-  pub passed-all : (i : ℕ) → Passed i → length xs ≤ i → true ≡ every ok xs
-  passed-all i p h = rw (drop_of_length-le xs h) at p.1
-
--- ---- the same, read to the end: what passed so far and the rest decide together
-and_assoc : (a b c : Bool) → (a && b) && c ≡ a && (b && c)
-and_assoc true b c = refl
-and_assoc false b c = refl
-
-and-true : (a : Bool) → a && true ≡ a
-and-true true = refl
-and-true false = refl
-
-module _ {A : Type 0} (ok : A → Bool) (xs : List A) (z : A) where
-  abbrev pub Kept : ℕ → Bool → Type 0
-  Kept i good = (i ≤ length xs) × (good && every ok (drop i xs) ≡ every ok xs)
-
-  pub kept_more : (i : ℕ) (good next : Bool) → Kept i good → i < length xs → next ≡ good && ok (get_or xs i z) → Kept (i + 1) next
-  kept_more i good next p h e =
-      (omega arith, rw e (and_assoc good (ok (get_or xs i z)) (every ok (drop (i + 1) xs)) ∙ rw (add-one i) (rw (drop-cons xs i z h) at p.1)))
-
-  pub kept-all : (i : ℕ) (good : Bool) → Kept i good → length xs ≤ i → good ≡ every ok xs
-  kept-all i good p h = sym (and-true good) ∙ rw (drop_of_length-le xs h) at p.1
+-- ---- a test of each element: one more item, and its test
+pub every-push : {A : Type 0} (ok : A → Bool) (xs : List A) (x : A) → every ok (xs ++ (x ∷ [])) ≡ every ok xs && ok x
+every-push ok [] x = and-true (ok x)
+  where
+    and-true : (a : Bool) → a && true ≡ a
+    and-true true = refl
+    and-true false = refl
+every-push ok (y ∷ xs) x = rw (every-push ok xs x) (go (ok y))
+  where
+    go : (a : Bool) → a && (every ok xs && ok x) ≡ a && every ok xs && ok x
+    go true = refl
+    go false = refl
 
 pub &&-left : (a b : Bool) → a && b ≡ true → a ≡ true
 &&-left true b e = refl
@@ -71,6 +50,13 @@ every-at ok (x ∷ xs) z (suc i) e h = every-at ok xs z i (&&-right (ok x) (ever
 pub every-so : {A : Type 0} (ok : A → Bool) (xs : List A) (z : A) → ((i : ℕ) → i < length xs → ok (get_or xs i z) ≡ true) → every ok xs ≡ true
 every-so ok [] z h = refl
 every-so ok (x ∷ xs) z h = rw (h 0 (omega arith), every-so ok xs z (λ i u. h (suc i) (omega arith)))
+
+-- two lists of one length, whose items pass or fail place by place
+pub every-same : {A B : Type 0} (ok : A → Bool) (also : B → Bool) (xs : List A) (ys : List B) (z : A) (w : B) → length xs ≡ length ys → ((i : ℕ) → i < length xs → ok (get_or xs i z) ≡ also (get_or ys i w)) → every ok xs ≡ every also ys
+every-same ok also [] [] z w e h = refl
+every-same ok also [] (y ∷ ys) z w e h = let g : 0 ≡ suc (length ys) = e in absurd (omega arith)
+every-same ok also (x ∷ xs) [] z w e h = let g : suc (length xs) ≡ 0 = e in absurd (omega arith)
+every-same ok also (x ∷ xs) (y ∷ ys) z w e h = rw (h 0 (omega arith), every-same ok also xs ys z w (let g : suc (length xs) ≡ suc (length ys) = e in omega arith) (λ i u. h (suc i) (omega arith)))
 
 -- ---- lengths: so many entries of k numbers each, told by a quotient
 module _ (k a b : ℕ) (p : 0 < k) where

@@ -1,5 +1,6 @@
 -- What a job may carry; N1 to R3 and R7 are rows of docs/TRACE.md. Definitions only.
-use Rattle.std.specs.Prelude.{ℕ, ◌*◌, Bool, true, ◌&&◌, ◌||◌, List, [], ◌∷◌, leb, ltb, eqb, Float}
+use Rattle.std.specs.Prelude.{ℕ, ◌*◌, Bool, ◌&&◌, ◌||◌, List, leb, ltb, eqb, Float}
+use Rattle.std.specs.List.{list_all}
 use Rattle.std.specs.Float.{binary32}
 use Rattle.std.specs.Float.Ieee.{of_bits, neg, le}
 use Rattle.face.specs.declared.vec.Vec2.{Vec2}
@@ -20,8 +21,7 @@ abbrev pub in_range3 : Vec3 → Bool
 in_range3 p = in_range p.x && (in_range p.y && in_range p.z)
 
 abbrev pub every : {A : Type 0} → (A → Bool) → List A → Bool
-every ok [] = true
-every ok (x ∷ xs) = ok x && every ok xs
+every = list_all
 
 abbrev pub all_in_range : List Float → Bool
 all_in_range = every in_range

@@ -1,5 +1,5 @@
 // The tests of what a job carries. What a number of a list stands for is its caller's to say.
-ghost use Rattle.std.specs.Prelude.{◌≡◌, ◌&&◌};
+ghost use Rattle.std.specs.Prelude.{◌≡◌, Bool};
 ghost use Rattle.answer.specs.Checks.{in_range, in_range2, in_range3, every, all_in_range, exactly, names_option, is_neighbour, below, cell_count};
 
 use face::vec::{Vec2, Vec3};
@@ -8,52 +8,33 @@ use face::vec::{Vec2, Vec3};
 pub fn in_range(x: f32) -> bool
     ensures { result ≡ in_range x }
 {
-    if -1000000.0 <= x {
-        return x <= 1000000.0;
-    }
-    false
+    -1000000.0 <= x && x <= 1000000.0
 }
 
 pub fn in_range2(p: Vec2) -> bool
     ensures { result ≡ in_range2 p }
 {
-    if in_range(p.x) {
-        return in_range(p.y);
-    }
-    false
+    in_range(p.x) && in_range(p.y)
 }
 
 pub fn in_range3(p: Vec3) -> bool
     ensures { result ≡ in_range3 p }
 {
-    if in_range(p.x) {
-        if in_range(p.y) {
-            return in_range(p.z);
-        }
-    }
-    false
+    in_range(p.x) && in_range(p.y) && in_range(p.z)
 }
 
 // Lists are walked to their end whatever they hold, and no branch hangs on a number: so the compiler tests several at once.
-fn still(good: bool, next: bool) -> bool
-    ensures { result ≡ good && next }
+fn every<T: Copy, F: Fn(T) -> bool>(items: &[T], test: F) -> bool
+    requires { F.IsAlwaysCallable test }
+    ensures { (ok : T → Bool) → ((x : T) (r : Bool) → F.post test x r → r ≡ ok x) → result ≡ every ok items.now }
 {
-    if good {
-        return next;
-    }
-    false
+    items.iter().fold(true, |good, x| good & test(*x))
 }
 
 pub fn all_in_range(numbers: &[f32]) -> bool
     ensures { result ≡ all_in_range numbers.now }
 {
-    let mut good = true;
-    let mut i = 0;
-    while i < numbers.len() {
-        good = still(good, in_range(numbers[i]));
-        i += 1;
-    }
-    good
+    every(numbers, in_range)
 }
 
 // Whether a list of a job has its length: so many numbers for each of so many entries.
@@ -63,76 +44,46 @@ pub fn is_exactly(numbers: usize, entries: usize, each: usize) -> bool
     if each == 0 {
         return numbers == 0;
     }
-    if numbers % each == 0 {
-        return numbers / each == entries;
-    }
-    false
+    numbers % each == 0 && numbers / each == entries
 }
 
 // 255 is the default; any other number is that of an entry.
 pub fn names_option(number: u8, entries: usize) -> bool
     ensures { result ≡ names_option number entries }
 {
-    if number == 255 {
-        return true;
-    }
-    (number as usize) < entries
+    number == 255 || (number as usize) < entries
 }
 
 // A cell, or 4,294,967,295 for none.
 pub fn is_neighbour(number: u32, cells: usize) -> bool
     ensures { result ≡ is_neighbour number cells }
 {
-    if number == 4294967295 {
-        return true;
-    }
-    (number as usize) < cells
+    number == 4294967295 || (number as usize) < cells
 }
 
 // An index, below a count of vertices. A comparison of 16 bits lets the compiler test eight at once.
 fn is_below(count: usize, index: u16) -> bool
     ensures { result ≡ below count index }
 {
-    if count > 65535 {
-        return true;
-    }
-    index < (count as u16)
+    count > 65535 || index < count as u16
 }
 
 pub fn all_below(count: usize, indices: &[u16]) -> bool
     ensures { result ≡ every (below count) indices.now }
 {
-    let mut good = true;
-    let mut i = 0;
-    while i < indices.len() {
-        good = still(good, is_below(count, indices[i]));
-        i += 1;
-    }
-    good
+    every(indices, |index| is_below(count, index))
 }
 
 pub fn all_name_options(numbers: &[u8], entries: usize) -> bool
     ensures { result ≡ every (λ k. names_option k entries) numbers.now }
 {
-    let mut good = true;
-    let mut i = 0;
-    while i < numbers.len() {
-        good = still(good, names_option(numbers[i], entries));
-        i += 1;
-    }
-    good
+    every(numbers, |number| names_option(number, entries))
 }
 
 pub fn all_neighbours(numbers: &[u32], cells: usize) -> bool
     ensures { result ≡ every (λ k. is_neighbour k cells) numbers.now }
 {
-    let mut good = true;
-    let mut i = 0;
-    while i < numbers.len() {
-        good = still(good, is_neighbour(numbers[i], cells));
-        i += 1;
-    }
-    good
+    every(numbers, |number| is_neighbour(number, cells))
 }
 
 // At most 65,536 cells.

@@ -1,4 +1,5 @@
 pub mod Laid
+pub mod Copying
 pub mod Order
 pub mod Rooms
 pub mod Windows

@@ -8,46 +8,30 @@ use native.Mathlib.Omega.{arith}
 use borrow.Author.Tests.{leb-true}
 use lib.ListN.{length, set, length-set}
 use lib.Dec.{leb}
-use lib.Ieee.{Float}
+use lib.Ieee.{Float, nan}
+use borrow.Rule.Slice.PartMut.{put_mid}
 use Rattle.face.specs.Lists.{each, chain}
-use Rattle.face.proofs.Filling.{length-each}
+use Rattle.face.proofs.Filling.{each_all}
 use Rattle.answer.specs.Checks.{cell_count}
 use Rattle.buffers.specs.Laying.{spread, laid}
-use Rattle.buffers.proofs.Laid.{length-laid, laid_one, laid-three, laid-append, laid-nothing, chain_length, spread-all}
+use Rattle.buffers.proofs.Copying.{put-laid}
+use Rattle.buffers.proofs.Laid.{laid-three, laid-append, laid-nothing, chain_length, spread-all}
 use Rattle.cells.specs.Cells.{no_cell, cell_at, ends_of, numbers_of, neighbours_of, loadable, load_count, numbers_to, neighbours_to, numbers_loaded, neighbours_loaded}
 use Rattle.cells.specs.declared.Cell.{Cell}
 
-module _ {A : Type 0} (g : ℕ → A) (m : ℕ) (l : List A) (at : ℕ) where
-  -- after k stores the first k stand in the list
-  abbrev pub Stored : ℕ → List A → Type 0
-  Stored k now = (k ≤ m) × (length now ≡ length l) × (now ≡ laid l at (each g k))
-
-  one_store : (k : ℕ) → set (laid l at (each g k)) (at + k) (g k) ≡ laid l at (each g (k + 1))
-  one_store k =
-      ap (λ (p : ℕ). set (laid l at (each g k)) (at + p) (g k)) (sym (length-each g k))
-      ∙ sym (laid_one (laid l at (each g k)) (at + length (each g k)) (g k))
-      ∙ laid-append l at (each g k) (g k ∷ [])
-      ∙ ap (λ (p : ℕ). laid l at (each g p)) (sym (add-one k))
-
-  pub stored_more : (k : ℕ) (now : List A) → Stored k now → k < m → Stored (k + 1) (set now (at + k) (g k))
-  stored_more k now s h =
-      (omega arith, length-set now (at + k) (g k) ∙ s.1, ap (λ (b : List A). set b (at + k) (g k)) s.2 ∙ one_store k)
-
-  pub stored-all : (k : ℕ) (now : List A) → Stored k now → m ≤ k → now ≡ laid l at (each g m)
-  stored-all k now s h = let e : k ≡ m = omega (arith, s.0) in s.2 ∙ ap (λ (p : ℕ). laid l at (each g p)) e
-
--- ---- a cell's three numbers, and its ends after them
-module _ (l : List Float) (at : ℕ) (c : Cell) (new : List Float)
-    (e : new ≡ laid (set (set (set l at c.height) (at + 1) c.x) (at + 2) c.z) (at + 3) (ends_of c.ends)) where
-  pub cell-laid : new ≡ laid l at (numbers_of c)
+-- ---- a cell's three numbers and its ends after them, and its neighbours
+module _ (c : Cell) (h : length c.ends ≡ 24) (h' : length c.neighbours ≡ 6) where
+  pub cell-laid : (l : List Float) (at k : ℕ) (ys : List Float) → at + 27 ≤ length l → k ≡ 24 → ys ≡ c.ends
+      → put_mid (at + 3) k (set (set (set l at c.height) (at + 1) c.x) (at + 2) c.z) ys ≡ laid l at (numbers_of c)
   unfolding numbers_of
-  cell-laid =
-      e
-      ∙ ap (λ (b : List Float). laid b (at + 3) (ends_of c.ends)) (laid-three l at c.height c.x c.z)
+  cell-laid l at k ys r e p =
+      put-laid _ (at + 3) c.ends k ys (simp length-set (omega arith)) (h ∙ sym e) p
+      ∙ ap₂ (λ (b es : List Float). laid b (at + 3) es) (laid-three l at c.height c.x c.z) (sym (each_all c.ends nan 24 h))
       ∙ laid-append l at (c.height ∷ c.x ∷ c.z ∷ []) (ends_of c.ends)
 
-  pub cell-length : length new ≡ length l
-  cell-length = ap length cell-laid ∙ length-laid l at (numbers_of c)
+  pub words-laid : (l : List ℕ) (at k : ℕ) (ys : List ℕ) → at + 6 ≤ length l → k ≡ 6 → ys ≡ c.neighbours → put_mid at k l ys ≡ laid l at (neighbours_of c)
+  unfolding neighbours_of
+  words-laid l at k ys r e p = put-laid l at c.neighbours k ys (omega arith) (h' ∙ sym e) p ∙ ap (laid l at) (sym (each_all c.neighbours 0 6 h'))
 
 pub numbers-27 : (c : Cell) → length (numbers_of c) ≡ 27
 unfolding numbers_of

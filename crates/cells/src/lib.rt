@@ -3,8 +3,7 @@
 #![tactic(auto)]
 
 ghost use Rattle.std.specs.Prelude.{◌≡◌, ◌<◌, ◌≤◌, ◌+◌, ◌*◌, length};
-ghost use Rattle.buffers.specs.Laying.{laid};
-ghost use Rattle.cells.specs.Cells.{cell_at, ends_of, words_of, numbers_to, neighbours_to, Storing, loadable, load_count, load_answer, Loading};
+ghost use Rattle.cells.specs.Cells.{numbers_to, neighbours_to, Storing, loadable, load_count, load_answer, Loading};
 
 use answer::answer::{Answer, Refusal};
 use face::triangle::{Counts, IndexPlace, VertexNumber};
@@ -20,35 +19,6 @@ pub struct Cell {
     pub neighbours: [u32; 6],
 }
 
-fn cell_at(records: &[Cell], k: usize) -> Cell
-    requires { k < length records.now }
-    ensures { result ≡ cell_at records.now k }
-{
-    records[k]
-}
-
-fn put_ends(cells: &mut [f32], at: usize, ends: [f32; 24])
-    requires { at + 24 ≤ length cells.old }
-    ensures { cells.new ≡ laid cells.old at (ends_of ends) }
-{
-    let mut j: usize = 0;
-    while j < 24 {
-        cells[at + j] = ends[j];
-        j += 1;
-    }
-}
-
-fn put_words(neighbours: &mut [u32], at: usize, words: [u32; 6])
-    requires { at + 6 ≤ length neighbours.old }
-    ensures { neighbours.new ≡ laid neighbours.old at (words_of words) }
-{
-    let mut j: usize = 0;
-    while j < 6 {
-        neighbours[at + j] = words[j];
-        j += 1;
-    }
-}
-
 // The k-th cell's numbers and neighbours, where flat lists have them.
 fn put_cell(c: Cell, k: usize, cells: &mut [f32], neighbours: &mut [u32])
     requires { (27 * k + 27 ≤ length cells.old) × (6 * k + 6 ≤ length neighbours.old) }
@@ -58,27 +28,17 @@ fn put_cell(c: Cell, k: usize, cells: &mut [f32], neighbours: &mut [u32])
     cells[at] = c.height;
     cells[at + 1] = c.x;
     cells[at + 2] = c.z;
-    let ends = c.ends;
-    put_ends(cells, at + 3, ends);
-    let words = c.neighbours;
-    put_words(neighbours, 6 * k, words);
-}
-
-fn load_cell(records: &[Cell], k: usize, cells: &mut [f32], neighbours: &mut [u32])
-    requires { (k < length records.now) × (27 * k + 27 ≤ length cells.old) × (6 * k + 6 ≤ length neighbours.old) }
-    ensures { Storing (cell_at records.now k) k cells neighbours }
-{
-    put_cell(cell_at(records, k), k, cells, neighbours)
+    cells[at + 3..at + 27].copy_from_slice(&c.ends);
+    let at = 6 * k;
+    neighbours[at..at + 6].copy_from_slice(&c.neighbours);
 }
 
 fn load_first(records: &[Cell], n: usize, cells: &mut [f32], neighbours: &mut [u32])
     requires { (n ≤ length records.now) × (27 * n ≤ length cells.old) × (6 * n ≤ length neighbours.old) }
     ensures { (cells.new ≡ numbers_to records.now n cells.old) × (neighbours.new ≡ neighbours_to records.now n neighbours.old) }
 {
-    let mut k: usize = 0;
-    while k < n {
-        load_cell(records, k, cells, neighbours);
-        k += 1;
+    for k in 0..n {
+        put_cell(records[k], k, cells, neighbours);
     }
 }
 
@@ -86,22 +46,19 @@ fn load_first(records: &[Cell], n: usize, cells: &mut [f32], neighbours: &mut [u
 fn is_loadable(records: usize, cells: usize, neighbours: usize) -> bool
     ensures { result ≡ loadable records cells neighbours }
 {
-    if answer::check::is_cell_count(records) {
-        if 27 * records <= cells {
-            return 6 * records <= neighbours;
-        }
-    }
-    false
+    answer::check::is_cell_count(records) && 27 * records <= cells && 6 * records <= neighbours
 }
 
 // How many cells a load writes: all or none.
+#[tactic(auto, unfolding(crate::specs::Cells::load_count))]
 fn load_count(records: usize, cells: usize, neighbours: usize) -> usize
     ensures { result ≡ load_count records cells neighbours }
 {
     if is_loadable(records, cells, neighbours) {
-        return records;
+        records
+    } else {
+        0
     }
-    0
 }
 
 fn load_answer(records: usize, cells: usize, neighbours: usize) -> Answer

@@ -1,13 +1,15 @@
 -- The cheap column: its plan, and what laying its one face writes. Assumes nothing.
 use mathlib.Core.Path.{◌≡◌, refl, sym, ap, ap₂, ◌∙◌}
 use mathlib.Core.Bool.{Bool, ◌&&◌}
-use mathlib.Core.List.{List, [], ◌∷◌, ◌++◌, map}
-use Prim.Native.Nat.{ℕ, ◌*◌, ◌≤◌}
+use mathlib.Core.List.{List, [], ◌∷◌, ◌++◌, map, append-nil}
+use Prim.Native.Nat.{ℕ, ◌+◌, ◌*◌, ◌<◌, ◌≤◌}
 use native.Mathlib.Nat.{zero-add}
 use native.Mathlib.Omega.{arith}
 use borrow.Author.Tests.{eq-eqb, ne_eqb, eqb-true, ltb-true}
 use lib.Dec.{eqb, ltb}
-use lib.ListN.{length, get_or}
+use lib.ListN.{length, get_or, take}
+use lib.Seq.{length-take-le}
+use Rattle.std.proofs.lemmas.List.{take_more}
 use lib.Ieee.{Float}
 use Rattle.face.specs.declared.vec.Vec2.{Vec2}
 use Rattle.face.specs.declared.vec.Vec3.{Vec3}
@@ -24,7 +26,7 @@ use Rattle.answer.specs.Checks.{exactly}
 use Rattle.answer.proofs.Laws.{every-at, given-done, done-limited, named-done, roomed-done, after-done}
 use Rattle.buffers.specs.Mesh.{Vertex, none, measure}
 use Rattle.buffers.specs.Laying.{Buffers, four, three, two, corners, spread, laid, lay, lay_all, lay_one}
-use Rattle.buffers.proofs.Laid.{laid-append, spread-append, spread-length, spread-all, Laying, laying-done}
+use Rattle.buffers.proofs.Laid.{laid-append, spread-append, spread-length}
 use Rattle.buffers.specs.Windows.{Own}
 use Rattle.buffers.proofs.Order.{same-four}
 use Rattle.buffers.proofs.Rooms.{both}
@@ -43,17 +45,23 @@ module _ (job : CheapColumn) (l : List Float) where
   pub range-decides : length l ≡ 12 → (y : Bool) → range_of job l ≡ y → given y Range (limited (counts 12 48)) ≡ planned job l
   range-decides h y e = sym (ap₂ (λ (p q : Bool). given p Shape (given q Range (limited (measure (cheap_faces job l))))) (eq-eqb (length l) 12 h) e)
 
--- ---- six points in a row, and one row after the other
-module _ {A : Type 0} (f : A → List Float) where
-  pub laying-all : (xs : List A) (z : A) (m : ℕ) (l : List Float) (at k : ℕ) (now : List Float) → Laying (λ j. f (get_or xs j z)) m l at k now → m ≤ k → length xs ≡ m → now ≡ laid l at (spread f xs)
-  laying-all xs z m l at k now y u e = laying-done _ m l at k now y u ∙ ap (laid l at) (sym (spread-all f xs z m e))
+-- ---- items of n numbers in a row, and one row after the other
+module _ {A : Type 0} (f : A → List Float) (n : ℕ) (h : (x : A) → length (f x) ≡ n) where
+  pub row-more : (l : List Float) (at k : ℕ) (xs : List A) (x : A) (now next : List Float) → k < length xs → x ≡ get_or xs k x
+      → now ≡ laid l at (spread f (take k xs)) → next ≡ laid now (at + n * k) (f x) → next ≡ laid l at (spread f (take (k + 1) xs))
+  row-more l at k xs x now next u e p q =
+      let m : length (spread f (take k xs)) ≡ n * k = spread-length f n h (take k xs) ∙ ap (λ (j : ℕ). n * j) (length-take-le k xs (omega arith)) in
+      q
+      ∙ ap₂ (λ (b : List Float) (j : ℕ). laid b (at + j) (f x)) p (sym m)
+      ∙ laid-append l at (spread f (take k xs)) (f x)
+      ∙ ap (laid l at) (sym (ap (spread f) (take_more xs k x u ∙ ap (λ (y : A). take k xs ++ (y ∷ [])) (sym e)) ∙ spread-append f (take k xs) (x ∷ []) ∙ ap (λ (ys : List Float). spread f (take k xs) ++ ys) (append-nil (f x))))
 
   -- the second from where the first ends
-  pub two-rows : (n : ℕ) → ((x : A) → length (f x) ≡ n) → (m : ℕ) (l : List Float) {now next : List Float} (xs ys : List A) → length xs ≡ m
-      → now ≡ laid l 0 (spread f xs) → next ≡ laid now (n * m) (spread f ys) → next ≡ laid l 0 (spread f (xs ++ ys))
-  two-rows n h m l xs ys e p q =
+  pub two-rows : (l : List Float) {now next : List Float} (xs ys : List A)
+      → now ≡ laid l 0 (spread f xs) → next ≡ laid now (n * length xs) (spread f ys) → next ≡ laid l 0 (spread f (xs ++ ys))
+  two-rows l xs ys p q =
       q
-      ∙ ap₂ (λ (k : List Float) (j : ℕ). laid k j (spread f ys)) p (sym (zero-add _ ∙ spread-length f n h xs ∙ ap (λ (j : ℕ). n * j) e))
+      ∙ ap₂ (λ (k : List Float) (j : ℕ). laid k j (spread f ys)) p (sym (zero-add _ ∙ spread-length f n h xs))
       ∙ laid-append l 0 (spread f xs) (spread f ys)
       ∙ ap (laid l 0) (sym (spread-append f xs ys))
 

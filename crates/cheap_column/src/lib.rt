@@ -2,7 +2,8 @@
 // top and the sides share. It has no bottom.
 #![tactic(auto)]
 
-ghost use Rattle.std.specs.Prelude.{◌≡◌, ◌++◌, map, ◌+◌, ◌≤◌, length};
+ghost use Rattle.std.specs.Prelude.{◌≡◌, ◌++◌, map, ◌+◌, ◌*◌, ◌≤◌, List, length, refl};
+ghost use Rattle.std.specs.Float.Ieee.{Float};
 ghost use Rattle.face.specs.Lists.{each};
 ghost use Rattle.face.specs.Vec.{minus3};
 ghost use Rattle.buffers.specs.Mesh.{none};
@@ -34,86 +35,80 @@ fn corners_of(corners: &[f32]) -> [Vec2; 6]
     requires { length corners.now ≡ 12 }
     ensures { result ≡ each (corner_from corners.now) 6 }
 {
-    let mut out = [Vec2 { x: 0.0, y: 0.0 }; 6];
-    for k in 0usize..6 {
-        out[k] = Vec2 {
-            x: corners[2 * k],
-            y: corners[2 * k + 1],
-        };
-    }
-    out
+    std::array::from_fn(|k| Vec2 {
+        x: corners[2 * k],
+        y: corners[2 * k + 1],
+    })
 }
 
 fn is_in_range(job: CheapColumn, corners: &[f32]) -> bool
     ensures { result ≡ range_of job corners.now }
 {
-    if answer::check::all_in_range(corners) {
-        if answer::check::in_range2(job.centre) {
-            return answer::check::in_range(job.height);
-        }
-    }
-    false
+    answer::check::all_in_range(corners)
+        && answer::check::in_range2(job.centre)
+        && answer::check::in_range(job.height)
 }
 
 fn from_middle(top: [Vec3; 6], middle: Vec3) -> [Vec3; 6]
     ensures { result ≡ map (λ p. minus3 p middle) top }
 {
-    let mut out = top;
-    for k in 0usize..6 {
-        out[k] = face::vec::sub3(top[k], middle);
-    }
-    out
+    top.map(|p| face::vec::sub3(p, middle))
 }
 
-fn put_ring(at: usize, ps: [Vec3; 6], buffer: &mut [f32])
-    requires { at + 18 ≤ length buffer.old }
-    ensures { buffer.new ≡ laid buffer.old at (spread three ps) }
-{
-    for k in 0usize..6 {
-        let p = ps[k];
-        let j = at + 3 * k;
-        buffer[j] = p.x;
-        buffer[j + 1] = p.y;
-        buffer[j + 2] = p.z;
-    }
+// What the numbers of a vertex are: three of a point, two of a uv.
+trait Numbered<const N: usize>: Copy {
+    ghost numbers: { Self → List Float };
+
+    fn numbers(self) -> [f32; N]
+        ensures { result ≡ numbers self };
+
+    ghost sized: { (p : Self) → length (numbers p) ≡ N };
 }
 
-fn put_row(at: usize, ts: [Vec2; 6], buffer: &mut [f32])
-    requires { at + 12 ≤ length buffer.old }
-    ensures { buffer.new ≡ laid buffer.old at (spread two ts) }
-{
-    for k in 0usize..6 {
-        let t = ts[k];
-        let j = at + 2 * k;
-        buffer[j] = t.x;
-        buffer[j + 1] = t.y;
+impl Numbered<3> for Vec3 {
+    ghost numbers = { three };
+
+    ghost sized = { λ p. refl };
+
+    fn numbers(self) -> [f32; 3] {
+        [self.x, self.y, self.z]
     }
 }
 
-fn put_rings(upper: [Vec3; 6], lower: [Vec3; 6], buffer: &mut [f32])
-    requires { 36 ≤ length buffer.old }
-    ensures { buffer.new ≡ laid buffer.old 0 (spread three (upper ++ lower)) }
-{
-    put_ring(0, upper, buffer);
-    put_ring(18, lower, buffer);
+impl Numbered<2> for Vec2 {
+    ghost numbers = { two };
+
+    ghost sized = { λ p. refl };
+
+    fn numbers(self) -> [f32; 2] {
+        [self.x, self.y]
+    }
 }
 
-fn put_rows(ts: [Vec2; 6], buffer: &mut [f32])
-    requires { 24 ≤ length buffer.old }
-    ensures { buffer.new ≡ laid buffer.old 0 (spread two (ts ++ ts)) }
+fn put_row<const N: usize, T: Numbered<N>>(buffer: &mut [f32], at: usize, items: &[T])
+    requires { at + N * length items.now ≤ length buffer.old }
+    ensures { buffer.new ≡ laid buffer.old at (spread T.numbers items.now) }
 {
-    put_row(0, ts, buffer);
-    put_row(12, ts, buffer);
+    for (k, item) in items.iter().enumerate() {
+        let j = at + N * k;
+        buffer[j..j + N].copy_from_slice(&item.numbers());
+    }
+}
+
+// A row after another.
+fn put_rows<const N: usize, T: Numbered<N>>(buffer: &mut [f32], upper: &[T], lower: &[T])
+    requires { N * (length upper.now + length lower.now) ≤ length buffer.old }
+    ensures { buffer.new ≡ laid buffer.old 0 (spread T.numbers (upper.now ++ lower.now)) }
+{
+    put_row(buffer, 0, upper);
+    put_row(buffer, N * upper.len(), lower);
 }
 
 fn put_indices(buffer: &mut [u16])
     requires { 48 ≤ length buffer.old }
     ensures { buffer.new ≡ laid buffer.old 0 (spread (corners 0) cheap_triangles) }
 {
-    let table = INDICES;
-    for k in 0usize..48 {
-        buffer[k] = table[k];
-    }
+    buffer[..48].copy_from_slice(&INDICES);
 }
 
 fn put(
@@ -131,9 +126,9 @@ fn put(
     let foot = face::face::raise_six(cs, 0.0);
     let outward = from_middle(top, face::face::raise(job.centre, job.height));
     let ts = face::uv_mapping::wrap_six(cs);
-    put_rings(top, foot, vertices);
-    put_rings(outward, outward, normals);
-    put_rows(ts, uvs);
+    put_rows(vertices, &top, &foot);
+    put_rows(normals, &outward, &outward);
+    put_rows(uvs, &ts, &ts);
     put_indices(indices);
 }
 

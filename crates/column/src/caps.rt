@@ -1,20 +1,15 @@
 // Where the caps of a column stand: about (+0, +0), moved by a first offset of their own, then placed.
 ghost use Rattle.std.specs.Prelude.{◌≡◌};
-ghost use Rattle.face.specs.Vec.{zero3};
 ghost use Rattle.column.specs.Column.{top_offset, top_stand, bottom_stand};
 
 use face::vec::Vec3;
 use placement::placement::{Choice3, Stand};
 
-fn origin() -> Vec3
-    ensures { result ≡ zero3 }
-{
-    Vec3 {
-        x: 0.0,
-        y: 0.0,
-        z: 0.0,
-    }
-}
+const ORIGIN: Vec3 = Vec3 {
+    x: 0.0,
+    y: 0.0,
+    z: 0.0,
+};
 
 // The products with 0 are -0 below height 0; the sum makes them +0.
 fn top_offset(height: f32) -> Vec3
@@ -25,17 +20,16 @@ fn top_offset(height: f32) -> Vec3
         y: height,
         z: 0.0 * height,
     };
-    face::vec::add3(origin(), up)
+    face::vec::add3(ORIGIN, up)
 }
 
 pub fn top_stand(job: crate::Column) -> Stand
     ensures { result ≡ top_stand job }
 {
-    let s = job.placement;
     placement::placement::stand_by(
         Choice3::With(top_offset(job.height)),
         false,
-        placement::placement::settle(s, job.position),
+        placement::placement::settle(job.placement, job.position),
     )
 }
 
@@ -43,10 +37,9 @@ pub fn top_stand(job: crate::Column) -> Stand
 pub fn bottom_stand(job: crate::Column) -> Stand
     ensures { result ≡ bottom_stand job }
 {
-    let s = job.placement;
     placement::placement::stand_by(
-        Choice3::With(origin()),
+        Choice3::With(ORIGIN),
         true,
-        placement::placement::settle(s, job.position),
+        placement::placement::settle(job.placement, job.position),
     )
 }

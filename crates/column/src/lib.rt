@@ -20,6 +20,7 @@ use face::vec::Vec2;
 use placement::options::Choice;
 use placement::placement::Placement;
 
+// An enum of our own, no `Option`: a rule of this repository.
 #[derive(Clone, Copy)]
 pub enum Subdivisions {
     Absent,
@@ -55,51 +56,29 @@ pub fn parts_of(s: Subdivisions) -> u32
     ensures { result ≡ parts_of s }
 {
     match s {
-        Subdivisions::Absent => 1,
-        Subdivisions::Of(n) => {
-            if n == 0 {
-                return 1;
-            }
-            n
-        }
+        Subdivisions::Absent | Subdivisions::Of(0) => 1,
+        Subdivisions::Of(n) => n,
     }
 }
 
 pub fn delta_of(job: Column) -> f32
     ensures { result ≡ delta job }
 {
-    let s = job.subdivisions;
-    job.height / std::num::nearest_u32_to_f32(parts_of(s))
+    job.height / std::num::nearest_u32_to_f32(parts_of(job.subdivisions))
 }
 
 fn all_sides_named(sides: [Side; 6], entries: usize) -> bool
     ensures { result ≡ every (λ x. choice_names x.option entries) sides }
 {
-    let mut d = 0;
-    while d < 6 {
-        let s = sides[d];
-        let o = s.option;
-        if placement::options::choice_names(o, entries) {
-            d += 1;
-        } else {
-            return false;
-        }
-    }
-    true
+    sides.iter().all(|side| placement::options::choice_names(side.option, entries))
 }
 
 fn all_named(job: Column, entries: usize) -> bool
     ensures { result ≡ all_named job entries }
 {
-    let sides = job.sides;
-    let top = job.top;
-    let bottom = job.bottom;
-    if all_sides_named(sides, entries) {
-        if placement::options::choice_names(top, entries) {
-            return placement::options::choice_names(bottom, entries);
-        }
-    }
-    false
+    all_sides_named(job.sides, entries)
+        && placement::options::choice_names(job.top, entries)
+        && placement::options::choice_names(job.bottom, entries)
 }
 
 fn zero() -> Counts
@@ -139,8 +118,7 @@ pub fn side_counts(c: Choice, s: u32, numbers: &[f32], marks: &[u8]) -> Counts
     match c {
         Choice::Absent => zero(),
         Choice::With(k) => {
-            let o = placement::options::option_at(numbers, marks, k);
-            let inset = o.inset;
+            let inset = placement::options::option_at(numbers, marks, k).inset;
             times(s, face::triangle::quad_counts(inset))
         }
     }
@@ -152,8 +130,7 @@ pub fn cap_counts(c: Choice, numbers: &[f32], marks: &[u8]) -> Counts
     match c {
         Choice::Absent => zero(),
         Choice::With(k) => {
-            let o = placement::options::option_at(numbers, marks, k);
-            let inset = o.inset;
+            let inset = placement::options::option_at(numbers, marks, k).inset;
             face::triangle::hexagon_counts(inset)
         }
     }
@@ -163,12 +140,10 @@ pub fn cap_counts(c: Choice, numbers: &[f32], marks: &[u8]) -> Counts
 pub fn side_option(sides: [Side; 6], d: u8) -> Choice
     ensures { result ≡ side_at sides d }
 {
-    let i = d as usize;
-    if i < 6 {
-        let s = sides[i];
-        return s.option;
+    match sides.get(d as usize) {
+        Some(side) => side.option,
+        None => Choice::Absent,
     }
-    Choice::Absent
 }
 
 // The counts of the first n sides.
@@ -177,9 +152,8 @@ pub(crate) fn sides_counts(sides: [Side; 6], n: u8, s: u32, numbers: &[f32], mar
     ensures small { (result.vertices.0 ≤ 35046933135360) × (result.indices.0 ≤ 35046933135360) }
 {
     let mut t = zero();
-    for d in 0u8..n {
-        let o = side_option(sides, d);
-        t = add(t, side_counts(o, s, numbers, marks));
+    for d in 0..n {
+        t = add(t, side_counts(side_option(sides, d), s, numbers, marks));
     }
     t
 }
@@ -187,14 +161,10 @@ pub(crate) fn sides_counts(sides: [Side; 6], n: u8, s: u32, numbers: &[f32], mar
 fn column_counts(job: Column, numbers: &[f32], marks: &[u8]) -> Counts
     ensures { result ≡ column_counts job numbers.now marks.now }
 {
-    let sides = job.sides;
-    let top = job.top;
-    let bottom = job.bottom;
-    let s = job.subdivisions;
-    let walls = sides_counts(sides, 6, parts_of(s), numbers, marks);
+    let walls = sides_counts(job.sides, 6, parts_of(job.subdivisions), numbers, marks);
     let caps = add(
-        cap_counts(top, numbers, marks),
-        cap_counts(bottom, numbers, marks),
+        cap_counts(job.top, numbers, marks),
+        cap_counts(job.bottom, numbers, marks),
     );
     add(walls, caps)
 }
@@ -202,39 +172,27 @@ fn column_counts(job: Column, numbers: &[f32], marks: &[u8]) -> Counts
 fn is_shape(job: Column, pairs: &[f32], corners: &[f32], numbers: &[f32], marks: &[u8]) -> bool
     ensures { result ≡ shape_of job (lent pairs corners numbers marks) }
 {
-    if answer::check::is_exactly(pairs.len(), 6, 4) {
-        if answer::check::is_exactly(corners.len(), 6, 2) {
-            if placement::options::is_table(numbers, marks) {
-                return all_named(job, placement::options::entries(marks));
-            }
-        }
-    }
-    false
+    answer::check::is_exactly(pairs.len(), 6, 4)
+        && answer::check::is_exactly(corners.len(), 6, 2)
+        && placement::options::is_table(numbers, marks)
+        && all_named(job, placement::options::entries(marks))
 }
 
 fn is_place(job: Column) -> bool
     ensures { result ≡ place_of job }
 {
-    let s = job.placement;
-    if answer::check::in_range(job.height) {
-        if answer::check::in_range2(job.position) {
-            return placement::placement::placement_in_range(s);
-        }
-    }
-    false
+    answer::check::in_range(job.height)
+        && answer::check::in_range2(job.position)
+        && placement::placement::placement_in_range(job.placement)
 }
 
 fn is_in_range(job: Column, pairs: &[f32], corners: &[f32], numbers: &[f32]) -> bool
     ensures { result ≡ range_of job (lists pairs.now corners.now numbers.now []) }
 {
-    if answer::check::all_in_range(pairs) {
-        if answer::check::all_in_range(corners) {
-            if answer::check::all_in_range(numbers) {
-                return is_place(job);
-            }
-        }
-    }
-    false
+    answer::check::all_in_range(pairs)
+        && answer::check::all_in_range(corners)
+        && answer::check::all_in_range(numbers)
+        && is_place(job)
 }
 
 // The counts of the job, or why it is refused. The parts are not walked.

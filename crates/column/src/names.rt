@@ -21,16 +21,12 @@ pub fn side_faces(c: Choice, s: u32) -> usize
 pub fn face_count(job: crate::Column) -> usize
     ensures { result ≡ length (column_names job) }
 {
-    let sides = job.sides;
-    let top = job.top;
-    let bottom = job.bottom;
-    let s = job.subdivisions;
-    let parts = crate::parts_of(s);
+    let parts = crate::parts_of(job.subdivisions);
     let mut t = 0;
-    for d in 0u8..6 {
-        t += side_faces(crate::side_option(sides, d), parts);
+    for side in job.sides {
+        t += side_faces(side.option, parts);
     }
-    t + side_faces(top, 1) + side_faces(bottom, 1)
+    t + side_faces(job.top, 1) + side_faces(job.bottom, 1)
 }
 
 // After the sides come the top, where there is one, and the bottom.
@@ -38,13 +34,8 @@ fn cap_name(top: Choice, left: usize) -> crate::Name
     ensures { result ≡ cap_name top left }
 {
     match top {
-        Choice::Absent => crate::Name::Bottom,
-        Choice::With(_) => {
-            if left == 0 {
-                return crate::Name::Top;
-            }
-            crate::Name::Bottom
-        }
+        Choice::With(_) if left == 0 => crate::Name::Top,
+        _ => crate::Name::Bottom,
     }
 }
 
@@ -52,19 +43,16 @@ fn cap_name(top: Choice, left: usize) -> crate::Name
 pub fn name_of(job: crate::Column, number: usize) -> crate::Name
     ensures { result ≡ name_at job number }
 {
-    let sides = job.sides;
-    let top = job.top;
-    let s = job.subdivisions;
-    let parts = crate::parts_of(s);
+    let parts = crate::parts_of(job.subdivisions);
     let mut left = number;
-    for d in 0u8..6 {
-        let n = side_faces(crate::side_option(sides, d), parts);
+    for d in 0..6 {
+        let n = side_faces(crate::side_option(job.sides, d), parts);
         if left < n {
             return crate::Name::OfSide(d, left as u32);
         }
         left -= n;
     }
-    cap_name(top, left)
+    cap_name(job.top, left)
 }
 
 // What is laid of a face: the part of a side by the numbers of both, or a cap by where it stands and its option.
@@ -77,12 +65,10 @@ pub enum Piece {
 pub fn piece_of(job: crate::Column, name: crate::Name) -> Piece
     ensures { result ≡ piece_of job name }
 {
-    let top = job.top;
-    let bottom = job.bottom;
     match name {
         crate::Name::OfSide(d, p) => Piece::Part(d, p),
-        crate::Name::Top => Piece::Cap(crate::caps::top_stand(job), top),
-        crate::Name::Bottom => Piece::Cap(crate::caps::bottom_stand(job), bottom),
+        crate::Name::Top => Piece::Cap(crate::caps::top_stand(job), job.top),
+        crate::Name::Bottom => Piece::Cap(crate::caps::bottom_stand(job), job.bottom),
     }
 }
 
@@ -90,21 +76,21 @@ pub fn piece_of(job: crate::Column, name: crate::Name) -> Piece
 pub fn start_of(job: crate::Column, name: crate::Name, numbers: &[f32], marks: &[u8]) -> Counts
     ensures { result ≡ start_by job numbers.now marks.now name }
 {
-    let sides = job.sides;
-    let top = job.top;
-    let s = job.subdivisions;
-    let parts = crate::parts_of(s);
+    let parts = crate::parts_of(job.subdivisions);
     match name {
         crate::Name::OfSide(d, p) => {
-            let o = placement::options::option_for(crate::side_option(sides, d), numbers, marks);
-            let inset = o.inset;
+            let side = crate::side_option(job.sides, d);
+            let inset = placement::options::option_for(side, numbers, marks).inset;
             let below = crate::times(p, face::triangle::quad_counts(inset));
-            crate::add(crate::sides_counts(sides, d, parts, numbers, marks), below)
+            crate::add(
+                crate::sides_counts(job.sides, d, parts, numbers, marks),
+                below,
+            )
         }
-        crate::Name::Top => crate::sides_counts(sides, 6, parts, numbers, marks),
+        crate::Name::Top => crate::sides_counts(job.sides, 6, parts, numbers, marks),
         crate::Name::Bottom => {
-            let walls = crate::sides_counts(sides, 6, parts, numbers, marks);
-            crate::add(walls, crate::cap_counts(top, numbers, marks))
+            let walls = crate::sides_counts(job.sides, 6, parts, numbers, marks);
+            crate::add(walls, crate::cap_counts(job.top, numbers, marks))
         }
     }
 }

@@ -25,29 +25,22 @@ pub struct Wall {
 pub fn wall_of(job: crate::Column, d: u8, pairs: &[f32], numbers: &[f32], marks: &[u8]) -> Wall
     ensures { result ≡ wall_of job pairs.now (option_for numbers.now marks.now (side_at job.sides d)) d }
 {
-    let sides = job.sides;
-    let s = job.placement;
-    let o = placement::options::option_for(crate::side_option(sides, d), numbers, marks);
-    let uv = o.uv;
-    let inset = o.inset;
-    let at = 4 * (d as u32);
+    let o = placement::options::option_for(crate::side_option(job.sides, d), numbers, marks);
+    let at = 4 * d as u32;
     let left = plane_builder::cap::pair_at(pairs, at);
     let right = plane_builder::cap::pair_at(pairs, at + 2);
     let base = face::face::new_quad(left, right, 0.0, 0.0);
-    let normal = base.normal;
-    let plain = base.uvs;
-    let uvs = face::uv_mapping::alter_four(uv, plain);
     Wall {
-        left: left,
-        right: right,
+        left,
+        right,
         delta: crate::delta_of(job),
-        normal: normal,
-        uvs: uvs,
-        inset: inset,
+        normal: base.normal,
+        uvs: face::uv_mapping::alter_four(o.uv, base.uvs),
+        inset: o.inset,
         stand: placement::placement::stand_by(
             Choice3::Absent,
             false,
-            placement::placement::settle(s, job.position),
+            placement::placement::settle(job.placement, job.position),
         ),
     }
 }
@@ -57,7 +50,6 @@ pub fn part_at(w: Wall, p: u32) -> Quad
 {
     let left = w.left;
     let right = w.right;
-    let normal = w.normal;
     let uvs = w.uvs;
     let foot = w.delta * std::num::nearest_u32_to_f32(p);
     let head = foot + w.delta;
@@ -84,7 +76,7 @@ pub fn part_at(w: Wall, p: u32) -> Quad
                 z: left.y,
             },
         ],
-        normal: normal,
-        uvs: uvs,
+        normal: w.normal,
+        uvs,
     }
 }

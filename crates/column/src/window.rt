@@ -24,25 +24,17 @@ pub fn faces(
 fn size_of(job: crate::Column, name: crate::Name, numbers: &[f32], marks: &[u8]) -> Counts
     ensures { result ≡ size_by job numbers.now marks.now name }
 {
-    let sides = job.sides;
-    let top = job.top;
-    let bottom = job.bottom;
     match name {
         crate::Name::OfSide(d, _) => {
-            let o = placement::options::option_for(crate::side_option(sides, d), numbers, marks);
-            let inset = o.inset;
-            face::triangle::quad_counts(inset)
+            let side = crate::side_option(job.sides, d);
+            face::triangle::quad_counts(placement::options::option_for(side, numbers, marks).inset)
         }
-        crate::Name::Top => {
-            let o = placement::options::option_for(top, numbers, marks);
-            let inset = o.inset;
-            face::triangle::hexagon_counts(inset)
-        }
-        crate::Name::Bottom => {
-            let o = placement::options::option_for(bottom, numbers, marks);
-            let inset = o.inset;
-            face::triangle::hexagon_counts(inset)
-        }
+        crate::Name::Top => face::triangle::hexagon_counts(
+            placement::options::option_for(job.top, numbers, marks).inset,
+        ),
+        crate::Name::Bottom => face::triangle::hexagon_counts(
+            placement::options::option_for(job.bottom, numbers, marks).inset,
+        ),
     }
 }
 

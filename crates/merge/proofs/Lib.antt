@@ -1,5 +1,4 @@
 -- What callers cite is public; the rest is how loops are proved.
 pub mod Merging
 pub mod Bench
-mod Copying
 pub mod Short

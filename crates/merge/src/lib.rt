@@ -54,11 +54,7 @@ fn copy(buffer: &mut [f32], at: usize, numbers: &[f32])
     requires { at + length numbers.now ≤ length buffer.old }
     ensures { buffer.new ≡ laid buffer.old at numbers.now }
 {
-    let mut k = 0;
-    while k < numbers.len() {
-        buffer[at + k] = numbers[k];
-        k += 1;
-    }
+    buffer[at..at + numbers.len()].copy_from_slice(numbers);
 }
 
 // Vertex numbers, each after b others.
@@ -67,13 +63,8 @@ fn copy_after(buffer: &mut [u16], at: IndexPlace, numbers: &[u16], b: VertexNumb
     requires by_index { (k : ℕ) → k < length numbers.now → b.0 + get_or numbers.now k 0 < 65536 }
     ensures { buffer.new ≡ laid buffer.old at.0 (map (λ x. b.0 + x) numbers.now) }
 {
-    let from = at.0;
-    let base = b.0;
-    let mut k = 0;
-    while k < numbers.len() {
-        let x = numbers[k] as usize;
-        buffer[from + k] = (base + x) as u16;
-        k += 1;
+    for (k, x) in numbers.iter().enumerate() {
+        buffer[at.0 + k] = (b.0 + *x as usize) as u16;
     }
 }
 

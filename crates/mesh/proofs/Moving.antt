@@ -1,10 +1,7 @@
 -- What is done to a stored mesh: a buffer moved piece by piece, points summed, and what a done answer says. Assumes nothing.
-use Rattle.std.proofs.Common.{◌≡◌, ℕ, suc, ◌+◌, ◌-◌, ◌*◌, ◌<◌, ◌≤◌, Bool, true, ltb, List, length, get_or, pos, sym, refl, ap, ◌∙◌, inr, zero-add, arith, ltb-true, leb-true}
+use Rattle.std.proofs.Common.{◌≡◌, ℕ, suc, ◌+◌, ◌-◌, ◌*◌, ◌<◌, ◌≤◌, Bool, true, ltb, List, length, get_or, pos, sym, refl, ap, ◌∙◌, inr, zero-add, arith, ltb-true, leb-true, add-one}
 use mathlib.Core.List.{foldl, foldl-append}
-use native.Mathlib.Nat.{sub_self}
 use lib.Ieee.{Float, nan, binary32, of_int}
-use Rattle.face.specs.declared.vec.Vec2.{Vec2}
-use Rattle.face.specs.declared.vec.Vec3.{Vec3}
 use Rattle.face.specs.declared.triangle.Counts.{Counts}
 use Rattle.face.specs.Lists.{each, chain}
 use Rattle.face.specs.Vec.{middle}
@@ -13,70 +10,40 @@ use Rattle.answer.specs.Answers.{Answer}
 use Rattle.std.specs.Prelude.{Ok, Err}
 use Rattle.answer.specs.declared.answer.Refusal.{Refusal}
 use Rattle.answer.specs.declared.answer.Refusal.TheVariants.{Shape, Range, Empty}
-use Rattle.answer.specs.Answers.{Roomy, limited, after, value_of}
+use Rattle.answer.specs.Answers.{Roomy, limited}
 use Rattle.answer.proofs.Laws.{given-done, done-limited, not_done, same-counts}
-use Rattle.buffers.specs.Laying.{Buffers, three, two, laid}
+use Rattle.buffers.specs.Laying.{Buffers, laid}
 use Rattle.buffers.proofs.Laid.{Laying, laying-more, laid-outside, chain_length}
 use Rattle.buffers.proofs.Rooms.{both}
-use Rattle.mesh.specs.Stored.{holds_counts, answer_of, centroid_answer, middle_by, not_empty, point_from, uv_from}
+use Rattle.mesh.specs.Stored.{holds_counts, answer_of, centroid_answer, middle_by, not_empty}
 
--- ---- a loop that replaces n numbers a turn by a part made of them: it reads from its place on
+-- ---- a loop that replaces n numbers a turn by those of a part that it reads there and moves: it reads from its place on
 -- alone, so what is laid before that place does not change it
-abbrev pub Moving : ℕ → (List Float → ℕ → List Float) → ℕ → List Float → ℕ → List Float → Type 0
-Moving n part m l k now = Laying (λ j. part l (n * j)) m l 0 k now
-
 abbrev Alike : ℕ → List Float → List Float → Type 0
 Alike at l r = (p : ℕ) → at ≤ p → get_or l p nan ≡ get_or r p nan
 
-module _ (n : ℕ) (part : List Float → ℕ → List Float)
-    (long : (l : List Float) (at : ℕ) → length (part l at) ≡ n)
-    (own : (l r : List Float) (at : ℕ) → Alike at l r → part l at ≡ part r at) where
-  still : (m : ℕ) (l : List Float) (k : ℕ) (now : List Float) → Moving n part m l k now → part now (n * k) ≡ part l (n * k)
-  still m l k now y =
-      own now l (n * k) (λ p h.
-      let e : length (chain (λ j. part l (n * j)) k) ≡ n * k = chain_length _ n (λ j. long l (n * j)) k in
-      rw y.2 (laid-outside l 0 (chain (λ j. part l (n * j)) k) p nan (inr (omega arith))))
+module _ {A : Type 0} (n : ℕ) (read : List Float → ℕ → A) (numbers : A → List Float) (f : A → A) where
+  abbrev part : List Float → ℕ → List Float
+  part l k = numbers (f (read l (n * k)))
 
-  moving-more : (m : ℕ) (l : List Float) (k : ℕ) (now next : List Float) → Moving n part m l k now → k < m → next ≡ laid now (n * k) (part now (n * k)) → Moving n part m l (k + 1) next
-  moving-more m l k now next y u e =
-      laying-more _ n (λ j. long l (n * j)) m l 0 k now next y u (rw (zero-add, ← still m l k now y) e)
+  abbrev pub Moving : ℕ → List Float → ℕ → List Float → Type 0
+  Moving m l k now = Laying (part l) m l 0 k now
 
--- three numbers a point, and two a uv
-module _ (f : Vec3 → Vec3) where
-  abbrev pub point_part : List Float → ℕ → List Float
-  point_part l at = three (f (point_from l at))
+  pub moving-more : (sized : (p : A) → length (numbers p) ≡ n) (own : (l r : List Float) (at : ℕ) → Alike at l r → read l at ≡ read r at)
+      → (m : ℕ) (l : List Float) (k : ℕ) (now next : List Float) → Moving m l k now → k < m → next ≡ laid now (n * k) (part now k) → Moving m l (k + 1) next
+  moving-more sized own m l k now next y u e =
+      laying-more (part l) n (λ j. sized (f (read l (n * j)))) m l 0 k now next y u (rw (zero-add, ← still) e)
+    where
+      still : part now k ≡ part l k
+      still =
+          ap (λ (x : A). numbers (f x))
+          (own now l (n * k) (λ p h.
+          let e : length (chain (part l) k) ≡ n * k = chain_length (part l) n (λ j. sized (f (read l (n * j)))) k in
+          rw y.2 (laid-outside l 0 (chain (part l) k) p nan (inr (omega arith)))))
 
-  point-own : (l r : List Float) (at : ℕ) → Alike at l r → point_part l at ≡ point_part r at
-  point-own l r at h = rw (h at (omega arith), h (at + 1) (omega arith), h (at + 2) (omega arith))
-
-  pub points-more : (m : ℕ) (l : List Float) (k : ℕ) (now next : List Float) → Moving 3 point_part m l k now → k < m → next ≡ laid now (3 * k) (point_part now (3 * k)) → Moving 3 point_part m l (k + 1) next
-  points-more = moving-more 3 point_part (λ l at. refl) point-own
-
-module _ (f : Vec2 → Vec2) where
-  abbrev pub uv_part : List Float → ℕ → List Float
-  uv_part l at = two (f (uv_from l at))
-
-  uv-own : (l r : List Float) (at : ℕ) → Alike at l r → uv_part l at ≡ uv_part r at
-  uv-own l r at h = rw (h at (omega arith), h (at + 1) (omega arith))
-
-  pub uvs-more : (m : ℕ) (l : List Float) (k : ℕ) (now next : List Float) → Moving 2 uv_part m l k now → k < m → next ≡ laid now (2 * k) (uv_part now (2 * k)) → Moving 2 uv_part m l (k + 1) next
-  uvs-more = moving-more 2 uv_part (λ l at. refl) uv-own
-
--- ---- m points summed one by one, with some of them left
-module _ {A : Type 0} (plus : A → A → A) (none : A) (g : ℕ → A) where
-  abbrev pub Adding : ℕ → ℕ → A → Type 0
-  Adding m left t = (left ≤ m) × (t ≡ foldl plus none (each g (m - left)))
-
-  pub adding-none : (m : ℕ) → Adding m m none
-  adding-none m = (omega arith, rw (sub_self m))
-
-  pub adding-more : (m left : ℕ) (t u : A) → Adding m left t → 0 < left → u ≡ plus t (g (m - left)) → Adding m (left - 1) u
-  adding-more m left t u s h e =
-      let next : m - (left - 1) ≡ suc (m - left) = omega (arith, s.0) in
-      (omega (arith, s.0), e ∙ rw (s.1, next, foldl-append))
-
-  pub adding-done : (m left : ℕ) (t : A) → Adding m left t → left ≤ 0 → t ≡ foldl plus none (each g m)
-  adding-done m left t s h = let all : m - left ≡ m = omega arith in s.1 ∙ rw all
+-- ---- k points summed one by one
+pub adding-more : {A : Type 0} (plus : A → A → A) (none : A) (g : ℕ → A) (k : ℕ) (t : A) → t ≡ foldl plus none (each g k) → plus t (g k) ≡ foldl plus none (each g (k + 1))
+adding-more plus none g k t e = rw (e, add-one k, foldl-append)
 
 -- the sum over how many they are is their middle
 mean-middle : {A : Type 0} (plus : A → A → A) (none : A) (over : A → Float → A) (g : ℕ → A) (m : ℕ) (t x : A) → t ≡ foldl plus none (each g m) → x ≡ over t (of_int binary32 (pos m)) → x ≡ middle plus none over (each g m)

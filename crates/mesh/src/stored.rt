@@ -2,11 +2,12 @@
 // parameter is tested. A list may be longer than its count says.
 ghost use Rattle.std.specs.Prelude.{◌≡◌, ◌+◌, ◌*◌, ◌≤◌, length};
 ghost use mathlib.Core.List.{foldl};
-ghost use Rattle.face.specs.Vec.{plus2, plus3, zero2, zero3};
-ghost use Rattle.buffers.specs.Laying.{three, two, laid, four};
+ghost use Rattle.face.specs.Lists.{each, chain};
+ghost use Rattle.buffers.specs.Laying.{laid, four};
 ghost use Rattle.buffers.specs.Lent.{shown};
-ghost use Rattle.mesh.specs.Stored.{holds_counts, stored_answer, not_empty, point_from, uv_from, stretched3, stretched2, moved_points, moved_uvs, points_of, uvs_of, scaled, shifted, texture_scaled, scale_answer, offset_answer, texture_scale_answer, mean_of3, mean_of2, centroid_of, uv_centroid_of};
+ghost use Rattle.mesh.specs.Stored.{holds_counts, stored_answer, not_empty, scaled, shifted, texture_scaled, scale_answer, offset_answer, texture_scale_answer, mean_of3, mean_of2, centroid_of, uv_centroid_of};
 
+use crate::put::Packed;
 use answer::answer::{Answer, Refusal};
 use face::triangle::Counts;
 use face::vec::{Vec2, Vec3};
@@ -17,6 +18,14 @@ pub struct Middle<P> {
     pub counts: Counts,
     pub centroid: P,
 }
+
+const ORIGIN: Vec3 = Vec3 {
+    x: 0.0,
+    y: 0.0,
+    z: 0.0,
+};
+
+const CORNER: Vec2 = Vec2 { x: 0.0, y: 0.0 };
 
 // Whether lists of these lengths hold what the counts say.
 pub fn holds_counts(
@@ -29,16 +38,7 @@ pub fn holds_counts(
     ensures { result ≡ holds_counts counts vertices normals uvs indices }
 {
     let v = counts.vertices.0;
-    if v > vertices / 3 {
-        return false;
-    }
-    if v > normals / 3 {
-        return false;
-    }
-    if v > uvs / 2 {
-        return false;
-    }
-    counts.indices.0 <= indices
+    v <= vertices / 3 && v <= normals / 3 && v <= uvs / 2 && counts.indices.0 <= indices
 }
 
 fn answer_of(
@@ -70,122 +70,29 @@ fn not_empty(answer: Answer) -> Answer
     Err(Refusal::Empty)
 }
 
-fn stretch_point(buffer: &mut [f32], at: usize, by: Vec3)
-    requires { at + 3 ≤ length buffer.old }
-    ensures { buffer.new ≡ laid buffer.old at (three (stretched3 by (point_from buffer.old at))) }
+// The first m, each moved by itself.
+fn move_each<P: Packed, F: Fn(P) -> P>(buffer: &mut [f32], m: usize, to: F)
+    requires callable { F.IsAlwaysCallable to }
+    requires room { P.SIZE * m ≤ length buffer.old }
+    ensures { (f : P → P) → ((p q : P) → F.post to p q → q ≡ f p) → buffer.new ≡ laid buffer.old 0 (chain (λ k. P.numbers (f (P.read buffer.old (P.SIZE * k)))) m) }
 {
-    let p = point_at(buffer, at);
-    crate::put::put3(
-        buffer,
-        at,
-        Vec3 {
-            x: p.x * by.x,
-            y: p.y * by.y,
-            z: p.z * by.z,
-        },
-    );
-}
-
-fn shift_point(buffer: &mut [f32], at: usize, by: Vec3)
-    requires { at + 3 ≤ length buffer.old }
-    ensures { buffer.new ≡ laid buffer.old at (three (plus3 (point_from buffer.old at) by)) }
-{
-    let p = point_at(buffer, at);
-    crate::put::put3(buffer, at, face::vec::add3(p, by));
-}
-
-fn stretch_uv(buffer: &mut [f32], at: usize, by: Vec2)
-    requires { at + 2 ≤ length buffer.old }
-    ensures { buffer.new ≡ laid buffer.old at (two (stretched2 by (uv_from buffer.old at))) }
-{
-    let p = uv_at(buffer, at);
-    crate::put::put2(
-        buffer,
-        at,
-        Vec2 {
-            x: p.x * by.x,
-            y: p.y * by.y,
-        },
-    );
-}
-
-fn point_at(buffer: &[f32], at: usize) -> Vec3
-    requires { at + 3 ≤ length buffer.now }
-    ensures { result ≡ point_from buffer.now at }
-{
-    Vec3 {
-        x: buffer[at],
-        y: buffer[at + 1],
-        z: buffer[at + 2],
+    for k in 0..m {
+        let at = P::SIZE * k;
+        to(P::read(buffer, at)).put(buffer, at);
     }
 }
 
-fn uv_at(buffer: &[f32], at: usize) -> Vec2
-    requires { at + 2 ≤ length buffer.now }
-    ensures { result ≡ uv_from buffer.now at }
+// From the first on.
+fn sum<P: Packed, F: Fn(P, P) -> P>(buffer: &[f32], m: usize, zero: P, add: F) -> P
+    requires callable { F.IsAlwaysCallable add }
+    requires room { P.SIZE * m ≤ length buffer.now }
+    ensures { (plus : P → P → P) → ((p q r : P) → F.post add p q r → r ≡ plus p q) → result ≡ foldl plus zero (each (λ k. P.read buffer.now (P.SIZE * k)) m) }
 {
-    Vec2 {
-        x: buffer[at],
-        y: buffer[at + 1],
+    let mut total = zero;
+    for k in 0..m {
+        total = add(total, P::read(buffer, P::SIZE * k));
     }
-}
-
-fn stretch_points(buffer: &mut [f32], m: usize, by: Vec3)
-    requires { 3 * m ≤ length buffer.old }
-    ensures { buffer.new ≡ moved_points (stretched3 by) m buffer.old }
-{
-    for k in 0usize..m {
-        stretch_point(buffer, 3 * k, by);
-    }
-}
-
-fn shift_points(buffer: &mut [f32], m: usize, by: Vec3)
-    requires { 3 * m ≤ length buffer.old }
-    ensures { buffer.new ≡ moved_points (λ p. plus3 p by) m buffer.old }
-{
-    for k in 0usize..m {
-        shift_point(buffer, 3 * k, by);
-    }
-}
-
-fn stretch_uvs(buffer: &mut [f32], m: usize, by: Vec2)
-    requires { 2 * m ≤ length buffer.old }
-    ensures { buffer.new ≡ moved_uvs (stretched2 by) m buffer.old }
-{
-    for k in 0usize..m {
-        stretch_uv(buffer, 2 * k, by);
-    }
-}
-
-// From the first on; left counts those still to come.
-fn sum_points(buffer: &[f32], m: usize) -> Vec3
-    requires { 3 * m ≤ length buffer.now }
-    ensures { result ≡ foldl plus3 zero3 (points_of m buffer.now) }
-{
-    let mut t = Vec3 {
-        x: 0.0,
-        y: 0.0,
-        z: 0.0,
-    };
-    let mut left = m;
-    while left > 0 {
-        t = face::vec::add3(t, point_at(buffer, 3 * (m - left)));
-        left -= 1;
-    }
-    t
-}
-
-fn sum_uvs(buffer: &[f32], m: usize) -> Vec2
-    requires { 2 * m ≤ length buffer.now }
-    ensures { result ≡ foldl plus2 zero2 (uvs_of m buffer.now) }
-{
-    let mut t = Vec2 { x: 0.0, y: 0.0 };
-    let mut left = m;
-    while left > 0 {
-        t = face::vec::add2(t, uv_at(buffer, 2 * (m - left)));
-        left -= 1;
-    }
-    t
+    total
 }
 
 // Multiplies each position, component by component; normals stay.
@@ -209,7 +116,15 @@ pub fn scale(
         uvs.len(),
         indices.len(),
     )?;
-    stretch_points(vertices, done.vertices.0, by);
+    move_each(
+        vertices,
+        done.vertices.0,
+        |p: Vec3| Vec3 {
+            x: p.x * by.x,
+            y: p.y * by.y,
+            z: p.z * by.z,
+        },
+    );
     Ok(done)
 }
 
@@ -234,7 +149,7 @@ pub fn offset(
         uvs.len(),
         indices.len(),
     )?;
-    shift_points(vertices, done.vertices.0, by);
+    move_each(vertices, done.vertices.0, |p| face::vec::add3(p, by));
     Ok(done)
 }
 
@@ -259,7 +174,14 @@ pub fn texture_scale(
         uvs.len(),
         indices.len(),
     )?;
-    stretch_uvs(uvs, done.vertices.0, by);
+    move_each(
+        uvs,
+        done.vertices.0,
+        |p: Vec2| Vec2 {
+            x: p.x * by.x,
+            y: p.y * by.y,
+        },
+    );
     Ok(done)
 }
 
@@ -307,7 +229,7 @@ pub fn centroid(
     let m = done.vertices.0;
     Ok(Middle {
         counts: done,
-        centroid: mean3(sum_points(vertices, m), m),
+        centroid: mean3(sum(vertices, m, ORIGIN, face::vec::add3), m),
     })
 }
 
@@ -332,6 +254,6 @@ pub fn uv_centroid(
     let m = done.vertices.0;
     Ok(Middle {
         counts: done,
-        centroid: mean2(sum_uvs(uvs, m), m),
+        centroid: mean2(sum(uvs, m, CORNER, face::vec::add2), m),
     })
 }

@@ -1,44 +1,33 @@
 -- Where a face stands; B6 to B9 and B18 to B20 are rows of docs/TRACE.md. Definitions only.
-use Rattle.std.specs.Prelude.{Bool, true, false, ◌&&◌, cond, Float}
+use Rattle.std.specs.Prelude.{Bool, true, ◌&&◌, cond, Float}
 use Rattle.std.specs.Float.Ieee.{neg}
 use Rattle.face.specs.declared.vec.Vec2.{Vec2}
 use Rattle.face.specs.declared.vec.Vec3.{Vec3}
-use Rattle.face.specs.Vec.{v3, f1, plus, times, plus3, flat}
+use Rattle.face.specs.Vec.{v3, plus, times, plus3, flat}
 use Rattle.answer.specs.Checks.{in_range3}
 use Rattle.placement.specs.declared.placement.Choice3.{Choice3}
 use Rattle.placement.specs.declared.placement.Choice3.TheVariants as choice
 use Rattle.placement.specs.declared.placement.Turn.{Turn}
 use Rattle.placement.specs.declared.placement.Turn.TheVariants as turn
 use Rattle.placement.specs.declared.placement.Placement.{Placement}
-use Rattle.placement.specs.declared.placement.Supplied3.{Supplied3}
-use Rattle.placement.specs.declared.placement.SuppliedTurn.{SuppliedTurn}
 use Rattle.placement.specs.declared.placement.Stand.{Stand}
 
--- ---- what may be absent, in plain numbers: 1 stands where nothing is supplied, and means nothing
-abbrev pub ones : Vec3
-ones = v3 f1 f1 f1
-
-abbrev pub supplied : Choice3 → Supplied3
-supplied choice.Absent = record { on = false; by = ones }
-supplied (choice.With v) = record { on = true; by = v }
-
-abbrev pub supplied_turn : Turn → SuppliedTurn
-supplied_turn turn.Absent = record { on = false; first = ones; second = ones; third = ones }
-supplied_turn (turn.Rows a b c) = record { on = true; first = a; second = b; third = c }
-
 -- ---- B18: each step, if it is supplied
-abbrev pub scaled : Supplied3 → Vec3 → Vec3
-scaled s p = cond s.on (v3 (times p.x s.by.x) (times p.y s.by.y) (times p.z s.by.z)) p
+abbrev pub scaled : Choice3 → Vec3 → Vec3
+scaled choice.Absent p = p
+scaled (choice.With by) p = v3 (times p.x by.x) (times p.y by.y) (times p.z by.z)
 
 -- B20: a row's three products, added from left to right
 abbrev pub dot : Vec3 → Vec3 → Float
 dot r p = plus (plus (times r.x p.x) (times r.y p.y)) (times r.z p.z)
 
-abbrev pub turned : SuppliedTurn → Vec3 → Vec3
-turned t p = cond t.on (v3 (dot t.first p) (dot t.second p) (dot t.third p)) p
+abbrev pub turned : Turn → Vec3 → Vec3
+turned turn.Absent p = p
+turned (turn.Rows a b c) p = v3 (dot a p) (dot b p) (dot c p)
 
-abbrev pub moved : Supplied3 → Vec3 → Vec3
-moved s p = cond s.on (plus3 p s.by) p
+abbrev pub moved : Choice3 → Vec3 → Vec3
+moved choice.Absent p = p
+moved (choice.With by) p = plus3 p by
 
 -- B9: x and y change their sign, of a zero too
 abbrev pub half_turned : Bool → Vec3 → Vec3
@@ -59,12 +48,12 @@ stood_normal t n = turned t.turn (half_turned t.half n)
 abbrev pub stand_from : Choice3 → Choice3 → Bool → Placement → Stand
 stand_from origin first half s =
     record {
-      first = supplied first;
+      first = first;
       half = half;
-      scale = supplied s.scale;
-      turn = supplied_turn s.turn;
-      offset = supplied s.offset;
-      origin = supplied origin;
+      scale = s.scale;
+      turn = s.turn;
+      offset = s.offset;
+      origin = origin;
     }
 
 -- planes and columns have none
@@ -73,7 +62,7 @@ stand_by = stand_from choice.Absent
 
 -- B7, B19: the position, at height +0, is always added; a supplied offset joins it first
 abbrev pub settled : Placement → Vec2 → Placement
-settled s at = record { scale = s.scale; turn = s.turn; offset = choice.With (moved (supplied s.offset) (flat at)) }
+settled s at = record { scale = s.scale; turn = s.turn; offset = choice.With (moved s.offset (flat at)) }
 
 -- ---- R2: every number that is supplied is in range
 abbrev pub choice_in_range : Choice3 → Bool

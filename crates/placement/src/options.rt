@@ -6,7 +6,7 @@ use face::inset::Inset;
 use face::uv_mapping::{Flip, UvOptions};
 use face::vec::Vec2;
 
-// The number of an option, or that the face is not there.
+// The number of an option, or that the face is not there. An enum of our own, no `Option`: a rule of this repository.
 #[derive(Clone, Copy)]
 pub enum Choice {
     Absent,
@@ -30,24 +30,13 @@ pub fn entries(marks: &[u8]) -> usize
 fn is_meant(i: usize, mark: u8) -> bool
     ensures { result ≡ means i mark }
 {
-    if i % 4 == 2 {
-        return mark < 3;
-    }
-    mark < 2
+    mark < if i % 4 == 2 { 3 } else { 2 }
 }
 
 fn all_meant(marks: &[u8]) -> bool
     ensures { result ≡ marks_mean marks.now }
 {
-    let mut i = 0;
-    while i < marks.len() {
-        if is_meant(i, marks[i]) {
-            i += 1;
-        } else {
-            return false;
-        }
-    }
-    true
+    marks.iter().enumerate().all(|(i, mark)| is_meant(i, *mark))
 }
 
 // Whether two lists are a table: as many numbers as marks ask for, of at most 64 entries, and no
@@ -56,27 +45,20 @@ pub fn is_table(numbers: &[f32], marks: &[u8]) -> bool
     ensures { result ≡ is_table numbers.now marks.now }
 {
     let n = entries(marks);
-    if n > 64 {
-        return false;
-    }
-    if answer::check::is_exactly(marks.len(), n, 4) {
-        if answer::check::is_exactly(numbers.len(), n, 9) {
-            return all_meant(marks);
-        }
-    }
-    false
+    n <= 64
+        && answer::check::is_exactly(marks.len(), n, 4)
+        && answer::check::is_exactly(numbers.len(), n, 9)
+        && all_meant(marks)
 }
 
 fn inset_of(kind: u8, scale: f32, keep: bool) -> Inset
     ensures { result ≡ inset_of kind scale keep }
 {
-    if kind == 1 {
-        return Inset::Centroid(scale, keep);
+    match kind {
+        1 => Inset::Centroid(scale, keep),
+        2 => Inset::SmallestEdge(scale, keep),
+        _ => Inset::None,
     }
-    if kind == 2 {
-        return Inset::SmallestEdge(scale, keep);
-    }
-    Inset::None
 }
 
 fn entry_at(numbers: &[f32], marks: &[u8], k: usize) -> FaceOptions
@@ -84,44 +66,31 @@ fn entry_at(numbers: &[f32], marks: &[u8], k: usize) -> FaceOptions
     requires k_in_bounds_2 { 4 * k + 4 ≤ length marks.now }
     ensures { result ≡ entry_at numbers.now marks.now k }
 {
-    let n = 9 * k;
-    let m = 4 * k;
-    let uv = UvOptions {
-        scale: Vec2 {
-            x: numbers[n],
-            y: numbers[n + 1],
-        },
-        offset: Vec2 {
-            x: numbers[n + 2],
-            y: numbers[n + 3],
-        },
-        min: Vec2 {
-            x: numbers[n + 4],
-            y: numbers[n + 5],
-        },
-        max: Vec2 {
-            x: numbers[n + 6],
-            y: numbers[n + 7],
-        },
-        flip: Flip {
-            u: marks[m] == 1,
-            v: marks[m + 1] == 1,
-        },
-    };
-    let inset = inset_of(marks[m + 2], numbers[n + 8], marks[m + 3] == 1);
+    let n = &numbers[9 * k..];
+    let m = &marks[4 * k..];
     FaceOptions {
-        uv: uv,
-        inset: inset,
+        uv: UvOptions {
+            scale: Vec2 { x: n[0], y: n[1] },
+            offset: Vec2 { x: n[2], y: n[3] },
+            min: Vec2 { x: n[4], y: n[5] },
+            max: Vec2 { x: n[6], y: n[7] },
+            flip: Flip {
+                u: m[0] == 1,
+                v: m[1] == 1,
+            },
+        },
+        inset: inset_of(m[2], n[8], m[3] == 1),
     }
 }
 
-fn no_options() -> FaceOptions
-    ensures { result ≡ plain_options }
-{
-    let uv = face::uv_mapping::default_options();
-    FaceOptions {
-        uv: uv,
-        inset: Inset::None,
+impl Default for FaceOptions {
+    ghost is_default = { λ o. o ≡ plain_options };
+
+    fn default() -> Self {
+        FaceOptions {
+            uv: face::uv_mapping::default_options(),
+            inset: Inset::None,
+        }
     }
 }
 
@@ -129,15 +98,9 @@ fn no_options() -> FaceOptions
 pub fn option_at(numbers: &[f32], marks: &[u8], number: u8) -> FaceOptions
     ensures { result ≡ option_at numbers.now marks.now number }
 {
-    if number == 255 {
-        return no_options();
-    }
     let k = number as usize;
-    if numbers.len() / 9 <= k {
-        return no_options();
-    }
-    if marks.len() / 4 <= k {
-        return no_options();
+    if number == 255 || numbers.len() / 9 <= k || marks.len() / 4 <= k {
+        return FaceOptions::default();
     }
     entry_at(numbers, marks, k)
 }

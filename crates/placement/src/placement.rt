@@ -1,12 +1,12 @@
-// Where a face stands. What a job supplies is made plain numbers once, and each point of a face goes through them as
-// it is laid.
+// Where a face stands. Each of its points goes through what a job supplies as it is laid.
 ghost use Rattle.std.specs.Prelude.{◌≡◌, ◌&&◌};
 ghost use Rattle.answer.specs.Checks.{in_range3};
 ghost use Rattle.placement.specs.Speed.{shifts_alone, shift_of};
-ghost use Rattle.placement.specs.Placing.{ones, supplied, supplied_turn, scaled, dot, turned, moved, half_turned, placed, stood, stood_normal, stand_from, stand_by, settled, choice_in_range, turn_in_range, placement_in_range};
+ghost use Rattle.placement.specs.Placing.{scaled, dot, turned, moved, half_turned, placed, stood, stood_normal, stand_from, stand_by, settled, choice_in_range, turn_in_range, placement_in_range};
 
 use face::vec::{Vec2, Vec3};
 
+// What the ported crate has as an `Option` of a job is an enum of our own: a rule of this repository.
 #[derive(Clone, Copy)]
 pub enum Choice3 {
     Absent,
@@ -28,89 +28,29 @@ pub struct Placement {
     pub offset: Choice3,
 }
 
-// A choice in plain numbers. The compiler forms the products of an absent one too and drops them, so ones stand there:
-// whatever lay there before might be subnormal, which is slow.
-#[derive(Clone, Copy)]
-pub struct Supplied3 {
-    pub on: bool,
-    pub by: Vec3,
-}
-
-#[derive(Clone, Copy)]
-pub struct SuppliedTurn {
-    pub on: bool,
-    pub first: Vec3,
-    pub second: Vec3,
-    pub third: Vec3,
-}
-
 // All that moves a face: a first offset, a half turn, scale, turn, offset and a map's origin, in this order, each if it
 // is so.
 #[derive(Clone, Copy)]
 pub struct Stand {
-    pub first: Supplied3,
+    pub first: Choice3,
     pub half: bool,
-    pub scale: Supplied3,
-    pub turn: SuppliedTurn,
-    pub offset: Supplied3,
-    pub origin: Supplied3,
-}
-
-fn ones() -> Vec3
-    ensures { result ≡ ones }
-{
-    Vec3 {
-        x: 1.0,
-        y: 1.0,
-        z: 1.0,
-    }
-}
-
-fn supply(choice: Choice3) -> Supplied3
-    ensures { result ≡ supplied choice }
-{
-    match choice {
-        Choice3::Absent => Supplied3 {
-            on: false,
-            by: ones(),
-        },
-        Choice3::With(v) => Supplied3 { on: true, by: v },
-    }
-}
-
-fn supply_turn(turn: Turn) -> SuppliedTurn
-    ensures { result ≡ supplied_turn turn }
-{
-    match turn {
-        Turn::Absent => SuppliedTurn {
-            on: false,
-            first: ones(),
-            second: ones(),
-            third: ones(),
-        },
-        Turn::Rows(a, b, c) => SuppliedTurn {
-            on: true,
-            first: a,
-            second: b,
-            third: c,
-        },
-    }
+    pub scale: Choice3,
+    pub turn: Turn,
+    pub offset: Choice3,
+    pub origin: Choice3,
 }
 
 // How a face stands by a job's placement, after a first offset and a half turn of its own, and before an origin.
 pub fn stand_from(origin: Choice3, first: Choice3, half: bool, s: Placement) -> Stand
     ensures { result ≡ stand_from origin first half s }
 {
-    let scale = s.scale;
-    let turn = s.turn;
-    let offset = s.offset;
     Stand {
-        first: supply(first),
-        half: half,
-        scale: supply(scale),
-        turn: supply_turn(turn),
-        offset: supply(offset),
-        origin: supply(origin),
+        first,
+        half,
+        scale: s.scale,
+        turn: s.turn,
+        offset: s.offset,
+        origin,
     }
 }
 
@@ -121,17 +61,17 @@ pub fn stand_by(first: Choice3, half: bool, s: Placement) -> Stand
     stand_from(Choice3::Absent, first, half, s)
 }
 
-fn scale_by(s: Supplied3, p: Vec3) -> Vec3
+fn scale_by(s: Choice3, p: Vec3) -> Vec3
     ensures { result ≡ scaled s p }
 {
-    if s.on {
-        return Vec3 {
-            x: p.x * s.by.x,
-            y: p.y * s.by.y,
-            z: p.z * s.by.z,
-        };
+    match s {
+        Choice3::Absent => p,
+        Choice3::With(by) => Vec3 {
+            x: p.x * by.x,
+            y: p.y * by.y,
+            z: p.z * by.z,
+        },
     }
-    p
 }
 
 fn dot(r: Vec3, p: Vec3) -> f32
@@ -140,26 +80,26 @@ fn dot(r: Vec3, p: Vec3) -> f32
     r.x * p.x + r.y * p.y + r.z * p.z
 }
 
-fn turn_by(t: SuppliedTurn, p: Vec3) -> Vec3
+fn turn_by(t: Turn, p: Vec3) -> Vec3
     ensures { result ≡ turned t p }
 {
-    if t.on {
-        return Vec3 {
-            x: dot(t.first, p),
-            y: dot(t.second, p),
-            z: dot(t.third, p),
-        };
+    match t {
+        Turn::Absent => p,
+        Turn::Rows(a, b, c) => Vec3 {
+            x: dot(a, p),
+            y: dot(b, p),
+            z: dot(c, p),
+        },
     }
-    p
 }
 
-fn move_by(s: Supplied3, p: Vec3) -> Vec3
+fn move_by(s: Choice3, p: Vec3) -> Vec3
     ensures { result ≡ moved s p }
 {
-    if s.on {
-        return face::vec::add3(p, s.by);
+    match s {
+        Choice3::Absent => p,
+        Choice3::With(by) => face::vec::add3(p, by),
     }
-    p
 }
 
 // About the axis z, exactly.
@@ -193,13 +133,10 @@ pub fn stand_point(t: Stand, p: Vec3) -> Vec3
 pub fn is_shift(t: Stand) -> bool
     ensures { result ≡ shifts_alone t }
 {
-    if t.half {
-        return false;
-    }
-    if t.scale.on {
-        return false;
-    }
-    !t.turn.on
+    matches!(
+        (t.half, t.scale, t.turn),
+        (false, Choice3::Absent, Turn::Absent)
+    )
 }
 
 // Where a point of such a face stands.
@@ -220,19 +157,14 @@ pub fn stand_normal(t: Stand, n: Vec3) -> Vec3
 pub fn settle(s: Placement, at: Vec2) -> Placement
     ensures { result ≡ settled s at }
 {
-    let scale = s.scale;
-    let turn = s.turn;
-    let offset = s.offset;
     let spot = Vec3 {
         x: at.x,
         y: 0.0,
         z: at.y,
     };
-    let joined = move_by(supply(offset), spot);
     Placement {
-        scale: scale,
-        turn: turn,
-        offset: Choice3::With(joined),
+        offset: Choice3::With(move_by(s.offset, spot)),
+        ..s
     }
 }
 
@@ -248,12 +180,7 @@ fn choice_in_range(choice: Choice3) -> bool
 fn rows_in_range(a: Vec3, b: Vec3, c: Vec3) -> bool
     ensures { result ≡ in_range3 a && (in_range3 b && in_range3 c) }
 {
-    if answer::check::in_range3(a) {
-        if answer::check::in_range3(b) {
-            return answer::check::in_range3(c);
-        }
-    }
-    false
+    answer::check::in_range3(a) && answer::check::in_range3(b) && answer::check::in_range3(c)
 }
 
 fn turn_in_range(turn: Turn) -> bool
@@ -269,13 +196,5 @@ fn turn_in_range(turn: Turn) -> bool
 pub fn placement_in_range(s: Placement) -> bool
     ensures { result ≡ placement_in_range s }
 {
-    let scale = s.scale;
-    let turn = s.turn;
-    let offset = s.offset;
-    if choice_in_range(scale) {
-        if turn_in_range(turn) {
-            return choice_in_range(offset);
-        }
-    }
-    false
+    choice_in_range(s.scale) && turn_in_range(s.turn) && choice_in_range(s.offset)
 }

@@ -1,5 +1,5 @@
 -- `load_first`: after k turns the first k cells are stored. Assumes nothing.
-use Rattle.std.proofs.Common.{◌≡◌, ◌≤◌, ◌-◌}
+use Rattle.std.proofs.Common.{◌≡◌, ◌≤◌}
 use Rattle.cells.specs.Cells.{numbers_to, neighbours_to}
 use Rattle.cells.proofs.load_first.Given as goal
 
@@ -7,6 +7,3 @@ abbrev pub invariant-loop-k : goal.invariant-loop-k
 invariant-loop-k l =
     (l.k ≤ l.n)
     × ((l.cells ≡ numbers_to l.records l.k l.initial.cells) × (l.neighbours ≡ neighbours_to l.records l.k l.initial.neighbours))
-
-abbrev pub decreases-loop-k : goal.decreases-loop-k
-decreases-loop-k l = l.n - l.k

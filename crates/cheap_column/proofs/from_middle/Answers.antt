@@ -1,18 +1,13 @@
+-- `from_middle`: point by point. Assumes nothing.
 use borrow.Author.Rules.{rules}
-use mathlib.Core.Path.{◌≡◌, refl}
-use lib.ListN.{length}
-use Rattle.face.specs.declared.vec.Vec3.{Vec3}
+use mathlib.Core.Path.{◌≡◌, sym, ◌∙◌}
+use lib.ListN.{get_or}
+use Rattle.face.specs.Lists.{each}
 use Rattle.face.specs.Vec.{off3, minus3}
-use Rattle.face.proofs.Filling.{filled_more, filled-map}
+use Rattle.face.proofs.Filling.{each_all, each_map}
 use Rattle.cheap_column.proofs.from_middle.Goals as goal
-
-pub loop-k-init : goal.loop-k-init
-loop-k-init c = (search rules, refl)
-
-pub loop-k-preserved : goal.loop-k-preserved
-loop-k-preserved c = filled_more _ 6 _ _ _ _ c.loop-k.invariant c.loop-k-test.true (search rules) c.sub3.ensures
 
 pub returns : goal.returns
 returns c = let a = c.args in
-    let l : length a.top ≡ 6 = search rules in
-    filled-map (λ (p : Vec3). minus3 p a.middle) a.top off3 6 _ _ _ c.loop-k.invariant c.loop-k-test.false (search rules) l
+    let e : each (λ k. get_or c.map.result k off3) 6 ≡ each (λ k. minus3 (get_or a.top k off3) a.middle) 6 = search rules in
+    sym (each_all c.map.result off3 6 (search rules)) ∙ e ∙ each_map (λ p. minus3 p a.middle) a.top off3 6 (search rules)

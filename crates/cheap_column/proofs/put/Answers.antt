@@ -17,7 +17,7 @@ returns c = let a = c.args in
     ∙ ap₂ (λ (x : Vec3) (l : List Vec3). map (λ p. minus3 p x) l) c.raise.ensures top
     ∙ outward-all a.job a.cs in
     mesh-laid a.job a.cs (four a.vertices.now a.normals.now a.uvs.now a.indices.now)
-    (c.put_rings.ensures ∙ ap₂ (λ (x y : List Vec3). laid a.vertices.now 0 (spread three (x ++ y))) top c.raise_six-foot.ensures)
-    (c.put_rings-2.ensures ∙ ap (λ (x : List Vec3). laid a.normals.now 0 (spread three (x ++ x))) out)
-    (c.put_rows.ensures ∙ ap (λ (x : List Vec2). laid a.uvs.now 0 (spread two (x ++ x))) c.wrap_six-ts.ensures)
+    (c.put_rows.ensures ∙ ap₂ (λ (x y : List Vec3). laid a.vertices.now 0 (spread three (x ++ y))) top c.raise_six-foot.ensures)
+    (c.put_rows-2.ensures ∙ ap (λ (x : List Vec3). laid a.normals.now 0 (spread three (x ++ x))) out)
+    (c.put_rows-3.ensures ∙ ap (λ (x : List Vec2). laid a.uvs.now 0 (spread two (x ++ x))) c.wrap_six-ts.ensures)
     c.put_indices.ensures

@@ -1,9 +1,7 @@
--- `put_row`: a turn lays one uv. Assumes nothing.
-use lib.ListN.{get_or}
-use Rattle.face.specs.Vec.{off2}
-use Rattle.buffers.specs.Laying.{two}
-use Rattle.buffers.proofs.Laid.{Laying}
+-- `put_row`: a turn lays one item's numbers. Assumes nothing.
+use Rattle.std.proofs.Common.{◌≡◌, take}
+use Rattle.buffers.specs.Laying.{laid, spread}
 use Rattle.cheap_column.proofs.put_row.Given as goal
 
 abbrev pub invariant-loop-k : goal.invariant-loop-k
-invariant-loop-k l = Laying (λ j. two (get_or l.ts j off2)) 6 l.initial.buffer l.at l.k l.buffer
+invariant-loop-k g l = l.buffer ≡ laid l.initial.buffer l.at (spread g.T.Numbered.numbers (take l.k l.items))

@@ -15,6 +15,3 @@ add-requires c = let a = c.args in
     let q = cap-most a.numbers.now a.marks.now a.job.bottom in
     let m = c.sides_counts-walls.ensures.small in
     rw (c.add-caps.ensures, c.cap_counts.ensures, c.cap_counts-2.ensures) (omega (arith, m.0, p.0, q.0), omega (arith, m.1, p.1, q.1))
-
-pub returns : goal.returns
-returns c = rw (c.add.ensures, c.add-caps.ensures, c.cap_counts-2.ensures, c.cap_counts.ensures, c.sides_counts-walls.ensures.sum, c.parts_of.ensures)

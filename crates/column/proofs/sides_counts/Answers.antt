@@ -14,11 +14,11 @@ add-t-requires c = let a = c.args in
     let i = c.loop-d.invariant in
     let m = sides-most a.numbers.now a.marks.now a.s a.sides h d in
     let q = side-most a.numbers.now a.marks.now a.s (side_at a.sides d) h in
-    rw (i.1, c.side_counts.ensures, c.side_option-o.ensures) (omega (arith, m.0, q.0, i.0, c.ranges.n), omega (arith, m.1, q.1, i.0, c.ranges.n))
+    rw (i.1, c.side_counts.ensures, c.side_option.ensures) (omega (arith, m.0, q.0, i.0, c.ranges.n), omega (arith, m.1, q.1, i.0, c.ranges.n))
 
 pub loop-d-preserved : goal.loop-d-preserved
 loop-d-preserved c = let i = c.loop-d.invariant in
-    (search rules, rw (add-one c.loop-d.d) (rw (i.1, c.side_counts.ensures, c.side_option-o.ensures) at c.add-t.ensures))
+    (search rules, rw (add-one c.loop-d.d) (rw (i.1, c.side_counts.ensures, c.side_option.ensures) at c.add-t.ensures))
 
 pub returns : goal.returns
 returns c = let a = c.args in

@@ -1,20 +1,11 @@
-use Prim.Native.Nat.{◌+◌}
 use native.Mathlib.Omega.{arith}
+use Prim.Native.Nat.{◌+◌}
 use mathlib.Core.Path.{refl, sym}
 use Rattle.buffers.proofs.Laid.{laid-nothing, copied_more, copied_all}
 use Rattle.merge.proofs.copy_after.Goals as goal
 
 pub loop-k-init : goal.loop-k-init
 loop-k-init c = (omega arith, refl, sym (laid-nothing _ _))
-
-pub overflow_cast-x : goal.overflow_cast-x
-overflow_cast-x c = omega (arith, c.requires.by_index _ c.loop-k-test.true)
-
-pub overflow_add-buffer : goal.overflow_add-buffer
-overflow_add-buffer c = omega (arith, c.requires.by_index _ c.loop-k-test.true)
-
-pub overflow_cast-buffer : goal.overflow_cast-buffer
-overflow_cast-buffer c = omega (arith, c.requires.by_index _ c.loop-k-test.true)
 
 pub loop-k-preserved : goal.loop-k-preserved
 loop-k-preserved c = copied_more (λ x. c.args.b.0 + x) c.args.numbers.now 0 _ _ _ _ c.loop-k.invariant c.loop-k-test.true

@@ -1,11 +1,7 @@
--- `copy_after`: a turn lays one number more, and none is past 16 bits. Assumes nothing.
-use Prim.Native.Nat.{◌-◌, ◌+◌}
-use lib.ListN.{length}
+-- `copy_after`: a turn lays one number more. Assumes nothing.
+use Prim.Native.Nat.{◌+◌}
 use Rattle.buffers.proofs.Laid.{Copied}
 use Rattle.merge.proofs.copy_after.Given as goal
 
 abbrev pub invariant-loop-k : goal.invariant-loop-k
-invariant-loop-k l = Copied (λ x. l.base + x) l.numbers 0 l.initial.buffer l.from l.k l.buffer
-
-abbrev pub decreases-loop-k : goal.decreases-loop-k
-decreases-loop-k l = length l.numbers - l.k
+invariant-loop-k l = Copied (λ x. l.b.0 + x) l.numbers 0 l.initial.buffer l.at.0 l.k l.buffer

@@ -5,4 +5,4 @@ use Rattle.column.proofs.Numbering.{walls}
 use Rattle.column.proofs.names.name_of.Given as goal
 
 abbrev pub invariant-loop-d : goal.invariant-loop-d
-invariant-loop-d l = (l.d ≤ 6) × (l.number ≡ length (chain (walls l.sides l.parts) l.d) + l.left)
+invariant-loop-d l = (l.d ≤ 6) × (l.number ≡ length (chain (walls l.job.sides l.parts) l.d) + l.left)

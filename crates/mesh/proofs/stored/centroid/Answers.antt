@@ -8,4 +8,4 @@ use Rattle.mesh.proofs.stored.centroid.Goals as goal
 
 pub returns : goal.returns
 returns c = let a = c.args in
-    centred a.counts (four a.vertices.now a.normals.now a.uvs.now a.indices.now) plus3 zero3 over3 (λ j. point_from a.vertices.now (3 * j)) (search rules) c.sum_points.ensures c.mean3.ensures
+    centred a.counts (four a.vertices.now a.normals.now a.uvs.now a.indices.now) plus3 zero3 over3 (λ j. point_from a.vertices.now (3 * j)) (search rules) (c.sum.ensures plus3 (λ p q r k. search rules)) c.mean3.ensures

@@ -8,4 +8,4 @@ use Rattle.mesh.proofs.stored.uv_centroid.Goals as goal
 
 pub returns : goal.returns
 returns c = let a = c.args in
-    centred a.counts (four a.vertices.now a.normals.now a.uvs.now a.indices.now) plus2 zero2 over2 (λ j. uv_from a.uvs.now (2 * j)) (search rules) c.sum_uvs.ensures c.mean2.ensures
+    centred a.counts (four a.vertices.now a.normals.now a.uvs.now a.indices.now) plus2 zero2 over2 (λ j. uv_from a.uvs.now (2 * j)) (search rules) (c.sum.ensures plus2 (λ p q r k. search rules)) c.mean2.ensures

@@ -1,0 +1,6 @@
+-- Two stores are one list laid. Assumes nothing.
+use Rattle.buffers.proofs.Laid.{laid-two}
+use Rattle.mesh.proofs.put.Vec2Packed.put.Goals as goal
+
+pub returns : goal.returns
+returns c = laid-two _ _ _ _

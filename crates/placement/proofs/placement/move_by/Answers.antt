@@ -1,5 +1,0 @@
--- `move_by`: its two cases. Assumes nothing.
-use Rattle.placement.proofs.placement.move_by.Goals as goal
-
-pub returns-then-s : goal.returns-then-s
-returns-then-s c = rw c.if-s.true c.add3.ensures
