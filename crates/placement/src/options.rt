@@ -118,9 +118,8 @@ fn entry_at(numbers: &[f32], marks: &[u8], k: usize) -> FaceOptions
 fn no_options() -> FaceOptions
     ensures { result ≡ plain_options }
 {
-    let uv = face::uv_mapping::default_options();
     FaceOptions {
-        uv: uv,
+        uv: UvOptions::default(),
         inset: Inset::None,
     }
 }

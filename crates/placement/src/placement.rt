@@ -157,7 +157,7 @@ fn move_by(s: Supplied3, p: Vec3) -> Vec3
     ensures { result ≡ moved s p }
 {
     if s.on {
-        return face::vec::add3(p, s.by);
+        return p + s.by;
     }
     p
 }

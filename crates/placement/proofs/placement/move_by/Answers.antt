@@ -2,4 +2,4 @@
 use Rattle.placement.proofs.placement.move_by.Goals as goal
 
 pub returns-then-s : goal.returns-then-s
-returns-then-s c = rw c.if-s.true c.add3.ensures
+returns-then-s c = rw c.if-s.true c.add.ensures
