@@ -1,5 +1,18 @@
--- `stand_hexagon`: its parts. Assumes nothing.
+-- `stand_hexagon`: the first six of its points and uvs. Assumes nothing.
+use borrow.Author.Rules.{rules}
+use mathlib.Core.Path.{ap, ap₂, ◌∙◌}
+use mathlib.Core.List.{List, map}
+use Rattle.face.specs.declared.vec.Vec2.{Vec2}
+use Rattle.face.specs.declared.vec.Vec3.{Vec3}
+use Rattle.face.specs.Vec.{off2, off3}
+use Rattle.placement.specs.Placing.{stood, stood_normal}
+use Rattle.buffers.proofs.PlainFaces.{six-of-twelve, six-first}
 use Rattle.buffers.proofs.plain.stand_hexagon.Goals as goal
 
 pub returns : goal.returns
-returns c = rw (c.outer_uvs-uvs.ensures, c.stand_outer-positions.ensures, c.stand_normal-normal.ensures)
+returns c = let t = c.args.t in
+    let h = c.args.h in
+    rw c.stand_normal-normal.ensures
+    (ap₂ (λ (ps : List Vec3) (ts : List Vec2). record { positions = ps; normal = stood_normal t h.normal; uvs = ts })
+    (c.stand_all.ensures ∙ ap (map (stood t)) c.six.ensures ∙ six-of-twelve (stood t) h.positions off3 (search rules))
+    (c.six-2.ensures ∙ six-first h.uvs off2 (search rules)))
