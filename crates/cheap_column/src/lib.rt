@@ -60,7 +60,7 @@ fn from_middle(top: [Vec3; 6], middle: Vec3) -> [Vec3; 6]
 {
     let mut out = top;
     for k in 0usize..6 {
-        out[k] = face::vec::sub3(top[k], middle);
+        out[k] = top[k] - middle;
     }
     out
 }

@@ -141,7 +141,7 @@ pub fn side_counts(c: Choice, s: u32, numbers: &[f32], marks: &[u8]) -> Counts
         Choice::With(k) => {
             let o = placement::options::option_at(numbers, marks, k);
             let inset = o.inset;
-            times(s, face::triangle::quad_counts(inset))
+            times(s, face::triangle::counts_of::<face::face::Quad>(inset))
         }
     }
 }
@@ -154,7 +154,7 @@ pub fn cap_counts(c: Choice, numbers: &[f32], marks: &[u8]) -> Counts
         Choice::With(k) => {
             let o = placement::options::option_at(numbers, marks, k);
             let inset = o.inset;
-            face::triangle::hexagon_counts(inset)
+            face::triangle::counts_of::<face::face::Hexagon>(inset)
         }
     }
 }

@@ -98,7 +98,7 @@ pub fn start_of(job: crate::Column, name: crate::Name, numbers: &[f32], marks: &
         crate::Name::OfSide(d, p) => {
             let o = placement::options::option_for(crate::side_option(sides, d), numbers, marks);
             let inset = o.inset;
-            let below = crate::times(p, face::triangle::quad_counts(inset));
+            let below = crate::times(p, face::triangle::counts_of::<face::face::Quad>(inset));
             crate::add(crate::sides_counts(sides, d, parts, numbers, marks), below)
         }
         crate::Name::Top => crate::sides_counts(sides, 6, parts, numbers, marks),

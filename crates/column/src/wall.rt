@@ -36,7 +36,7 @@ pub fn wall_of(job: crate::Column, d: u8, pairs: &[f32], numbers: &[f32], marks:
     let base = face::face::new_quad(left, right, 0.0, 0.0);
     let normal = base.normal;
     let plain = base.uvs;
-    let uvs = face::uv_mapping::alter_four(uv, plain);
+    let uvs = face::uv_mapping::alter(uv, plain);
     Wall {
         left: left,
         right: right,

@@ -30,17 +30,17 @@ fn size_of(job: crate::Column, name: crate::Name, numbers: &[f32], marks: &[u8])
         crate::Name::OfSide(d, _) => {
             let o = placement::options::option_for(crate::side_option(sides, d), numbers, marks);
             let inset = o.inset;
-            face::triangle::quad_counts(inset)
+            face::triangle::counts_of::<face::face::Quad>(inset)
         }
         crate::Name::Top => {
             let o = placement::options::option_for(top, numbers, marks);
             let inset = o.inset;
-            face::triangle::hexagon_counts(inset)
+            face::triangle::counts_of::<face::face::Hexagon>(inset)
         }
         crate::Name::Bottom => {
             let o = placement::options::option_for(bottom, numbers, marks);
             let inset = o.inset;
-            face::triangle::hexagon_counts(inset)
+            face::triangle::counts_of::<face::face::Hexagon>(inset)
         }
     }
 }

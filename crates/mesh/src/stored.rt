@@ -100,7 +100,7 @@ fn shift_point(buffer: &mut [f32], at: usize, by: Vec3)
     ensures { buffer.new ≡ laid buffer.old at (three (plus3 (point_from buffer.old at) by)) }
 {
     let p = point_at(buffer, at);
-    crate::put::put3(buffer, at, face::vec::add3(p, by));
+    crate::put::put3(buffer, at, p + by);
 }
 
 fn stretch_uv(buffer: &mut [f32], at: usize, by: Vec2)
@@ -178,7 +178,7 @@ fn sum_points(buffer: &[f32], m: usize) -> Vec3
     };
     let mut left = m;
     while left > 0 {
-        t = face::vec::add3(t, point_at(buffer, 3 * (m - left)));
+        t = t + point_at(buffer, 3 * (m - left));
         left -= 1;
     }
     t
@@ -191,7 +191,7 @@ fn sum_uvs(buffer: &[f32], m: usize) -> Vec2
     let mut t = Vec2 { x: 0.0, y: 0.0 };
     let mut left = m;
     while left > 0 {
-        t = face::vec::add2(t, uv_at(buffer, 2 * (m - left)));
+        t = t + uv_at(buffer, 2 * (m - left));
         left -= 1;
     }
     t

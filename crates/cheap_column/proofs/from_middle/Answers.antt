@@ -10,7 +10,7 @@ pub loop-k-init : goal.loop-k-init
 loop-k-init c = (search rules, refl)
 
 pub loop-k-preserved : goal.loop-k-preserved
-loop-k-preserved c = filled_more _ 6 _ _ _ _ c.loop-k.invariant c.loop-k-test.true (search rules) c.sub3.ensures
+loop-k-preserved c = filled_more _ 6 _ _ _ _ c.loop-k.invariant c.loop-k-test.true (search rules) c.sub.ensures
 
 pub returns : goal.returns
 returns c = let a = c.args in

@@ -5,4 +5,4 @@ pub returns-in-Absent : goal.returns-in-Absent
 returns-in-Absent c = rw c.in-Absent.is c.zero.ensures
 
 pub returns-in-With : goal.returns-in-With
-returns-in-With c = rw (c.in-With.is, ← c.option_at-o.ensures) c.hexagon_counts.ensures
+returns-in-With c = rw (c.in-With.is, ← c.option_at-o.ensures) c.counts_of.ensures

@@ -12,7 +12,6 @@ use Rattle.buffers.proofs.plain.stand_hexagon.Goals as goal
 pub returns : goal.returns
 returns c = let t = c.args.t in
     let h = c.args.h in
-    rw c.stand_normal-normal.ensures
-    (ap₂ (λ (ps : List Vec3) (ts : List Vec2). record { positions = ps; normal = stood_normal t h.normal; uvs = ts })
-    (c.stand_all.ensures ∙ ap (map (stood t)) c.six.ensures ∙ six-of-twelve (stood t) h.positions off3 (search rules))
-    (c.six-2.ensures ∙ six-first h.uvs off2 (search rules)))
+    let ps = c.stand_all.ensures ∙ ap (map (stood t)) c.six.ensures ∙ six-of-twelve (stood t) h.positions off3 (search rules) in
+    let ts = c.six-2.ensures ∙ six-first h.uvs off2 (search rules) in
+    λ k. record { positions = ps k; normal = c.stand_normal-normal.ensures k; uvs = ts k }

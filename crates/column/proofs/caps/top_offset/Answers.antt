@@ -2,4 +2,4 @@
 use Rattle.column.proofs.caps.top_offset.Goals as goal
 
 pub returns : goal.returns
-returns c = rw (c.add3.ensures, c.origin.ensures)
+returns c = rw (c.add.ensures, c.origin.ensures)

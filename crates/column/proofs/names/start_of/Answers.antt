@@ -4,7 +4,7 @@ use Rattle.column.proofs.Counts.{quad-small, cap-most}
 use Rattle.column.proofs.names.start_of.Goals as goal
 
 pub times-below-requires : goal.times-below-requires
-times-below-requires c = rw c.quad_counts.ensures (quad-small c.option_for-o.result.inset)
+times-below-requires c = rw c.counts_of.ensures (quad-small c.option_for-o.result.inset)
 
 pub add-requires : goal.add-requires
 add-requires c = let s = c.sides_counts.ensures.small in
@@ -19,7 +19,7 @@ add-requires-in-Bottom c = let s = c.sides_counts-walls.ensures.small in
 
 pub returns-in-OfSide : goal.returns-in-OfSide
 returns-in-OfSide c = rw c.in-OfSide.is
-    ((rw (c.sides_counts.ensures.sum, c.times-below.ensures.product, c.quad_counts.ensures, c.option_for-o.ensures, c.side_option.ensures, c.parts_of-parts.ensures) at c.add.ensures))
+    ((rw (c.sides_counts.ensures.sum, c.times-below.ensures.product, c.counts_of.ensures, c.option_for-o.ensures, c.side_option.ensures, c.parts_of-parts.ensures) at c.add.ensures))
 
 pub returns-in-Top : goal.returns-in-Top
 returns-in-Top c = rw (c.in-Top.is, ← c.parts_of-parts.ensures) c.sides_counts-in-Top.ensures.sum

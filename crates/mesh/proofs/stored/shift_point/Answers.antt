@@ -2,4 +2,4 @@
 use Rattle.mesh.proofs.stored.shift_point.Goals as goal
 
 pub returns : goal.returns
-returns c = rw (c.put3.ensures, c.add3.ensures, c.point_at-p.ensures)
+returns c = rw (c.put3.ensures, c.add.ensures, c.point_at-p.ensures)
