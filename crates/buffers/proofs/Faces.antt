@@ -24,7 +24,7 @@ use Rattle.placement.specs.declared.placement.Stand.{Stand}
 use Rattle.placement.specs.Placing.{stood, stood_normal}
 use Rattle.buffers.specs.Mesh.{Vertex, Mesh, also, size_of}
 use Rattle.buffers.specs.Laying.{Buffers, four, three, two, corners, laid, lay, fits, laid_if_fits}
-use Rattle.buffers.specs.Faces.{vertex_at, face_of, quad_mesh, hexagon_mesh, stood_vertex, standing, wall_mesh}
+use Rattle.buffers.specs.Faces.{vertex_at, face_of, inset_mesh, quad_mesh, hexagon_mesh, stood_vertex, standing, wall_mesh}
 use Rattle.buffers.proofs.Laid.{spread-each, spread-all}
 use Rattle.buffers.proofs.Order.{same-four}
 use Rattle.buffers.proofs.Rooms.{room-is}
@@ -80,64 +80,59 @@ counted (Centroid k false) v tris = let e = index-count (Centroid k false) v tri
 counted (SmallestEdge k true) v tris = let e = index-count (SmallestEdge k true) v tris in record { few = omega arith; third = omega (arith, e); most = omega arith }
 counted (SmallestEdge k false) v tris = let e = index-count (SmallestEdge k false) v tris in record { few = omega arith; third = omega (arith, e); most = omega arith }
 
-size_is : (how : Inset) (v : ℕ) (tris : List Triangle) → counts (inset_counts how v (length tris)).vertices.0 (3 * length (inset_triangles how v tris)) ≡ inset_counts how v (length tris)
-size_is None v tris = refl
-size_is (Centroid k keep) v tris = ap (λ (x : ℕ). counts (2 * v) x) (index-count (Centroid k keep) v tris)
-size_is (SmallestEdge k keep) v tris = ap (λ (x : ℕ). counts (2 * v) x) (index-count (SmallestEdge k keep) v tris)
+-- ---- a face of m points whose own triangles are n
+module _ (how : Inset) (m n : ℕ) (tris : List Triangle) (l : length tris ≡ n) where
+  third : length (inset_triangles how m tris) ≡ (inset_counts how m n).indices.0 / 3
+  third = rw l at (counted how m tris).third
+
+  size_is : (how : Inset) → counts (inset_counts how m n).vertices.0 (3 * length (inset_triangles how m tris)) ≡ inset_counts how m n
+  size_is None = ap (λ (x : ℕ). counts m (3 * x)) l
+  size_is (Centroid k keep) = ap (λ (x : ℕ). counts (2 * m) x) (rw l at (index-count (Centroid k keep) m tris))
+  size_is (SmallestEdge k keep) = ap (λ (x : ℕ). counts (2 * m) x) (rw l at (index-count (SmallestEdge k keep) m tris))
+
+  pub inset-size : (ps : List Vec3) (normal : Vec3) (ts : List Vec2) → size_of (inset_mesh how m n tris ps normal ts) ≡ inset_counts how m n
+  inset-size ps normal ts = face-size (inset_counts how m n).vertices.0 ps normal ts (inset_triangles how m tris) ∙ size_is how
+
+  pub inset-laid : (t : Stand) (ps : List Vec3) (normal : Vec3) (ts : List Vec2) (at : Counts) (B : Buffers) → lay (standing t (inset_mesh how m n tris ps normal ts)) at B
+      ≡ four
+      (laid B.vertices (3 * at.vertices.0) (chain (λ j. three (stood t (get_or ps j off3))) (inset_counts how m n).vertices.0))
+      (laid B.normals (3 * at.vertices.0) (chain (λ j. three (stood_normal t normal)) (inset_counts how m n).vertices.0))
+      (laid B.uvs (2 * at.vertices.0) (chain (λ j. two (get_or ts j off2)) (inset_counts how m n).vertices.0))
+      (laid B.indices at.indices.0 (chain (λ j. corners at.vertices.0 (get_or (inset_triangles how m tris) j no_triangle)) ((inset_counts how m n).indices.0 / 3)))
+  inset-laid t ps normal ts at B = face-laid t (inset_counts how m n).vertices.0 ps normal ts (inset_triangles how m tris) _ third at B
 
 -- ---- at four points and at six
 pub quad-size : (how : Inset) (q : InsetQuad) → size_of (quad_mesh how q) ≡ inset_counts how 4 2
 unfolding quad_mesh
-quad-size how q = face-size (inset_counts how 4 2).vertices.0 q.positions q.normal q.uvs (inset_triangles how 4 quad_triangles) ∙ size_is how 4 quad_triangles
+quad-size how q = inset-size how 4 2 quad_triangles refl q.positions q.normal q.uvs
 
 pub hexagon-size : (how : Inset) (h : InsetHexagon) → size_of (hexagon_mesh how h) ≡ inset_counts how 6 4
 unfolding hexagon_mesh
-hexagon-size how h = face-size (inset_counts how 6 4).vertices.0 h.positions h.normal h.uvs (inset_triangles how 6 hexagon_triangles) ∙ size_is how 6 hexagon_triangles
-
-module _ (t : Stand) (how : Inset) (at : Counts) (B : Buffers) where
-  pub quad-laid : (q : InsetQuad) → lay (standing t (quad_mesh how q)) at B
-      ≡ four
-      (laid B.vertices (3 * at.vertices.0) (chain (λ j. three (stood t (get_or q.positions j off3))) (inset_counts how 4 2).vertices.0))
-      (laid B.normals (3 * at.vertices.0) (chain (λ j. three (stood_normal t q.normal)) (inset_counts how 4 2).vertices.0))
-      (laid B.uvs (2 * at.vertices.0) (chain (λ j. two (get_or q.uvs j off2)) (inset_counts how 4 2).vertices.0))
-      (laid B.indices at.indices.0 (chain (λ j. corners at.vertices.0 (get_or (inset_triangles how 4 quad_triangles) j no_triangle)) ((inset_counts how 4 2).indices.0 / 3)))
-  unfolding quad_mesh
-  quad-laid q = face-laid t (inset_counts how 4 2).vertices.0 q.positions q.normal q.uvs (inset_triangles how 4 quad_triangles) _ (counted how 4 quad_triangles).third at B
-
-  pub hexagon-laid : (h : InsetHexagon) → lay (standing t (hexagon_mesh how h)) at B
-      ≡ four
-      (laid B.vertices (3 * at.vertices.0) (chain (λ j. three (stood t (get_or h.positions j off3))) (inset_counts how 6 4).vertices.0))
-      (laid B.normals (3 * at.vertices.0) (chain (λ j. three (stood_normal t h.normal)) (inset_counts how 6 4).vertices.0))
-      (laid B.uvs (2 * at.vertices.0) (chain (λ j. two (get_or h.uvs j off2)) (inset_counts how 6 4).vertices.0))
-      (laid B.indices at.indices.0 (chain (λ j. corners at.vertices.0 (get_or (inset_triangles how 6 hexagon_triangles) j no_triangle)) ((inset_counts how 6 4).indices.0 / 3)))
-  unfolding hexagon_mesh
-  hexagon-laid h = face-laid t (inset_counts how 6 4).vertices.0 h.positions h.normal h.uvs (inset_triangles how 6 hexagon_triangles) _ (counted how 6 hexagon_triangles).third at B
+hexagon-size how h = inset-size how 6 4 hexagon_triangles refl h.positions h.normal h.uvs
 
 -- ---- what the test of room gives the writers, in the words of their size
-pub record Written (how : Inset) (v : ℕ) (tris : List Triangle) (at size : Counts) (B : Buffers) : Type 0 where
-  pub few : size.vertices.0 ≤ 2 * v
-  pub limit : at.vertices.0 + (inset_counts how v (length tris)).vertices.0 ≤ 65536
+pub record Written (how : Inset) (m n : ℕ) (tris : List Triangle) (at size : Counts) (B : Buffers) : Type 0 where
+  pub few : size.vertices.0 ≤ 2 * m
+  pub limit : at.vertices.0 + (inset_counts how m n).vertices.0 ≤ 65536
   pub vertices : 3 * at.vertices.0 + 3 * size.vertices.0 ≤ length B.vertices
   pub normals : 3 * at.vertices.0 + 3 * size.vertices.0 ≤ length B.normals
   pub uvs : 2 * at.vertices.0 + 2 * size.vertices.0 ≤ length B.uvs
-  pub third : size.indices.0 / 3 ≤ length (inset_triangles how v tris)
-  pub most : size.indices.0 / 3 ≤ 2 * v + length tris
+  pub third : size.indices.0 / 3 ≤ length (inset_triangles how m tris)
   pub indices : at.indices.0 + 3 * (size.indices.0 / 3) ≤ length B.indices
 
-pub written : (how : Inset) (v : ℕ) (tris : List Triangle) (at size : Counts) (B : Buffers) → size ≡ inset_counts how v (length tris) → fits at (inset_counts how v (length tris)) B ≡ true
-    → Written how v tris at size B
-written how v tris at size B e f =
-    let k = counted how v tris in
-    let r = room-is (also at (inset_counts how v (length tris))) _ _ _ _ f in
+pub written : (how : Inset) (m n : ℕ) (tris : List Triangle) (at size : Counts) (B : Buffers) → length tris ≡ n → size ≡ inset_counts how m n → fits at (inset_counts how m n) B ≡ true
+    → Written how m n tris at size B
+written how m n tris at size B l e f =
+    let few : (inset_counts how m n).vertices.0 ≤ 2 * m = rw l at (counted how m tris).few in
+    let r = room-is (also at (inset_counts how m n)) _ _ _ _ f in
     rw e
     record {
-      few = k.few;
+      few = few;
       limit = r.limit;
       vertices = omega (arith, r.vertices);
       normals = omega (arith, r.normals);
       uvs = omega (arith, r.uvs);
-      third = omega (arith, k.third);
-      most = k.most;
+      third = omega (arith, third how m n tris l);
       indices = omega (arith, r.indices);
     }
 

@@ -84,6 +84,10 @@ module _ {A : Type 0} where
   unfolding laid
   laid-nothing l at = refl
 
+  -- so a loop that lays begins
+  pub laying-none : (m : ℕ) (l : List A) (at : ℕ) → (0 ≤ m) × (length l ≡ length l) × (l ≡ laid l at [])
+  laying-none m l at = (omega arith, refl, sym (laid-nothing l at))
+
 -- ---- the numbers of many
 module _ {A B : Type 0} (f : A → List B) where
   pub spread-append : (xs ys : List A) → spread f (xs ++ ys) ≡ spread f xs ++ spread f ys

@@ -22,6 +22,10 @@ vertex_at ps n ts k = record { position = get_or ps k off3; normal = n; uv = get
 abbrev pub face_of : ℕ → List Vec3 → Vec3 → List Vec2 → List Triangle → Mesh
 face_of m ps n ts tris = record { vertices = each (vertex_at ps n ts) m; triangles = tris }
 
+-- a face of m points that has the triangles tris, with its inset
+abbrev pub inset_mesh : Inset → ℕ → ℕ → List Triangle → List Vec3 → Vec3 → List Vec2 → Mesh
+inset_mesh how m n tris ps normal ts = face_of (inset_counts how m n).vertices.0 ps normal ts (inset_triangles how m tris)
+
 -- I5: four vertices, or eight with an inset
 unfoldable pub quad_mesh : Inset → InsetQuad → Mesh
 quad_mesh how q = face_of (inset_counts how 4 2).vertices.0 q.positions q.normal q.uvs (inset_triangles how 4 quad_triangles)

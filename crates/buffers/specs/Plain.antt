@@ -1,6 +1,6 @@
 -- A face without an inset, by value where it stands, which speed alone asks for: proofs/PlainFaces.antt says that it is the
 -- face of Faces.antt. Definitions only.
-use Rattle.std.specs.Prelude.{ℕ, ◌+◌, ◌≡◌, cond, List, ◌++◌, eqb, length, get_or}
+use Rattle.std.specs.Prelude.{ℕ, ◌%◌, cond, List, ◌++◌, eqb, length, get_or}
 use Rattle.face.specs.declared.vec.Vec2.{Vec2}
 use Rattle.face.specs.declared.vec.Vec3.{Vec3}
 use Rattle.face.specs.declared.face.Quad.{Quad}
@@ -23,6 +23,10 @@ points_by g ps = each (λ k. g (get_or ps k off3)) 6
 abbrev pub uvs_of : List Vec2 → List Vec2
 uvs_of ts = each (λ k. get_or ts k off2) 6
 
+-- the first six of a list, or all of a shorter one and then its first ones again
+abbrev pub six_of : {A : Type 0} → A → List A → List A
+six_of off l = each (λ k. get_or l (k % length l) off) 6
+
 abbrev pub plain_of : (Vec3 → Vec3) → List Vec3 → Vec3 → List Vec2 → Plain
 plain_of g ps n ts = record { positions = points_by g ps; normal = n; uvs = uvs_of ts }
 
@@ -39,10 +43,6 @@ stood_hexagon t h = plain_of (stood t) h.positions (stood_normal t h.normal) h.u
 -- F3, F5: the triangles of m points
 abbrev pub plain_triangles : ℕ → List Triangle
 plain_triangles m = cond (eqb m 4) quad_triangles hexagon_triangles
-
--- m points and n triangles: four and two, or six and four
-abbrev pub Plainly : ℕ → ℕ → Type 0
-Plainly m n = (m ≡ n + 2) × (length (plain_triangles m) ≡ n)
 
 -- what is laid of it
 abbrev pub plain_mesh : ℕ → Plain → Mesh

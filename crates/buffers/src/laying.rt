@@ -1,25 +1,29 @@
 // Laying a face. One test of the limit and of all four buffers comes first; after it no index can
 // be too great for its 16 bits, and no write can miss its buffer.
-ghost use Rattle.std.specs.Prelude.{◌≡◌, true, ◌+◌, ◌*◌, ◌≤◌, length, get_or};
+ghost use Rattle.std.specs.Prelude.{◌≡◌, ℕ, Float, List, true, ◌+◌, ◌*◌, ◌≤◌, length, get_or, refl};
 ghost use Rattle.face.specs.Lists.{chain};
-ghost use Rattle.face.specs.Vec.{off2, off3};
-ghost use Rattle.face.specs.Triangles.{inset_triangles, inset_counts, counts, no_triangle, quad_triangles, hexagon_triangles};
+ghost use Rattle.face.specs.Vec.{off3};
+ghost use Rattle.face.specs.Triangles.{inset_triangles, inset_counts, counts};
 ghost use Rattle.placement.specs.Placing.{stood};
 ghost use Rattle.buffers.specs.Mesh.{also, size_of};
 ghost use Rattle.buffers.specs.Laying.{four, three, two, corners, first_corners, laid, lay, reaches_floats, reaches, fits, laid_if_fits};
 ghost use Rattle.buffers.specs.Lent.{lending, entering, Become};
-ghost use Rattle.buffers.specs.Plain.{Plainly, plain_triangles, plain_mesh};
-ghost use Rattle.buffers.specs.Faces.{standing, quad_mesh, hexagon_mesh, wall_mesh};
+ghost use Rattle.buffers.specs.Plain.{plain_mesh};
+ghost use Rattle.buffers.specs.Faces.{face_of, inset_mesh, standing, quad_mesh, hexagon_mesh, wall_mesh};
 
 use crate::plain::Plain;
-use face::face::Quad;
+use face::face::{Hexagon, Quad};
 use face::inset::{Inset, InsetHexagon, InsetQuad};
-use face::triangle::{Counts, IndexPlace, Triangle, VertexNumber};
-use face::vec::{Vec2, Vec3};
-use placement::placement::Stand;
+use face::triangle::{Counts, IndexPlace, Shape, Triangle, VertexNumber, counts_of, triangle_of};
+use face::vec::{Point, Vec2, Vec3};
+use placement::placement::{Stand, stand_normal, stand_point};
+
+// How many vertices 16 bits can number.
+const LIMIT: usize = 65536;
 
 // Whether a mesh of a size, laid at a place, can be numbered and fits into buffers of these
 // lengths. No sum is formed before its parts are known to be small.
+#[tactic(auto, unfolding(crate::specs::Laying::reaches))]
 pub fn has_room(
     at: Counts,
     size: Counts,
@@ -32,24 +36,13 @@ pub fn has_room(
 {
     let v = at.vertices.0;
     let m = size.vertices.0;
-    if v > 65536 {
-        return false;
-    }
-    if m > 65536 {
-        return false;
-    }
-    let end = v + m;
-    if end > 65536 {
-        return false;
-    }
     let i = at.indices.0;
-    if i > indices {
-        return false;
-    }
-    if size.indices.0 > indices - i {
-        return false;
-    }
-    has_floats(VertexNumber(end), vertices, normals, uvs)
+    v <= LIMIT
+        && m <= LIMIT
+        && v + m <= LIMIT
+        && i <= indices
+        && size.indices.0 <= indices - i
+        && has_floats(VertexNumber(v + m), vertices, normals, uvs)
 }
 
 fn has_floats(end: VertexNumber, vertices: usize, normals: usize, uvs: usize) -> bool
@@ -57,29 +50,84 @@ fn has_floats(end: VertexNumber, vertices: usize, normals: usize, uvs: usize) ->
     ensures { result ≡ reaches_floats end.0 vertices normals uvs }
 {
     let v = end.0;
-    if 3 * v <= vertices {
-        if 3 * v <= normals {
-            return 2 * v <= uvs;
-        }
+    3 * v <= vertices && 3 * v <= normals && 2 * v <= uvs
+}
+
+// A point as the numbers that lie in a buffer.
+trait Laid: Point {
+    ghost SIZE: { ℕ };
+
+    const SIZE: usize;
+
+    ghost numbers: { Self → List Float };
+
+    fn put(self, buffer: &mut [f32], at: usize)
+        requires { at + SIZE ≤ length buffer.old }
+        ensures { buffer.new ≡ laid buffer.old at (numbers self) };
+
+    ghost sized: { (p : Self) → length (numbers p) ≡ SIZE };
+}
+
+impl Laid for Vec3 {
+    ghost SIZE = { 3 };
+
+    const SIZE: usize = 3;
+
+    ghost numbers = { three };
+
+    ghost sized = { λ p. refl };
+
+    fn put(self, buffer: &mut [f32], at: usize) {
+        buffer[at] = self.x;
+        buffer[at + 1] = self.y;
+        buffer[at + 2] = self.z;
     }
-    false
 }
 
-fn put3(buffer: &mut [f32], at: usize, p: Vec3)
-    requires { at + 3 ≤ length buffer.old }
-    ensures { buffer.new ≡ laid buffer.old at (three p) }
-{
-    buffer[at] = p.x;
-    buffer[at + 1] = p.y;
-    buffer[at + 2] = p.z;
+impl Laid for Vec2 {
+    ghost SIZE = { 2 };
+
+    const SIZE: usize = 2;
+
+    ghost numbers = { two };
+
+    ghost sized = { λ p. refl };
+
+    fn put(self, buffer: &mut [f32], at: usize) {
+        buffer[at] = self.x;
+        buffer[at + 1] = self.y;
+    }
 }
 
-fn put2(buffer: &mut [f32], at: usize, p: Vec2)
-    requires { at + 2 ≤ length buffer.old }
-    ensures { buffer.new ≡ laid buffer.old at (two p) }
+// The first m of the points.
+fn put_all<P: Laid, const N: usize>(buffer: &mut [f32], at: usize, ps: [P; N], m: usize)
+    requires points { m ≤ N }
+    requires room { at + P.SIZE * m ≤ length buffer.old }
+    ensures { buffer.new ≡ laid buffer.old at (chain (λ k. P.numbers (get_or ps k P.off)) m) }
 {
-    buffer[at] = p.x;
-    buffer[at + 1] = p.y;
+    for k in 0..m {
+        ps[k].put(buffer, at + P::SIZE * k);
+    }
+}
+
+// The same, each where it comes to stand.
+fn put_stood<const N: usize>(buffer: &mut [f32], at: usize, t: Stand, ps: [Vec3; N], m: usize)
+    requires points { m ≤ N }
+    requires room { at + 3 * m ≤ length buffer.old }
+    ensures { buffer.new ≡ laid buffer.old at (chain (λ k. three (stood t (get_or ps.entry k off3))) m) }
+{
+    for k in 0..m {
+        stand_point(t, ps[k]).put(buffer, at + 3 * k);
+    }
+}
+
+fn put_normals(buffer: &mut [f32], at: usize, normal: Vec3, m: usize)
+    requires { at + 3 * m ≤ length buffer.old }
+    ensures { buffer.new ≡ laid buffer.old at (chain (λ k. three normal) m) }
+{
+    for k in 0..m {
+        normal.put(buffer, at + 3 * k);
+    }
 }
 
 // The vertex numbers of a triangle, each after b others.
@@ -94,105 +142,80 @@ fn put_corners(buffer: &mut [u16], at: IndexPlace, b: VertexNumber, t: Triangle)
     buffer[i + 2] = (t.2.0 + b.0) as u16;
 }
 
-fn put_normals(buffer: &mut [f32], at: usize, normal: Vec3, m: usize)
-    requires { (m ≤ 12) × (at + 3 * m ≤ length buffer.old) }
-    ensures { buffer.new ≡ laid buffer.old at (chain (λ k. three normal) m) }
+// The first m triangles of a face with its inset, whose vertices come after b others.
+fn put_triangles<S: Shape>(
+    buffer: &mut [u16],
+    at: IndexPlace,
+    how: Inset,
+    b: VertexNumber,
+    m: usize,
+)
+    requires m_in_bounds { m ≤ length (inset_triangles how S.POINTS S.triangles) }
+    requires how_bound { (b.0 + (inset_counts how S.POINTS S.TRIANGLES).vertices.0 ≤ 65536) × (at.0 + 3 * m ≤ length buffer.old) }
+    ensures { buffer.new ≡ laid buffer.old at.0 (first_corners b.0 (inset_triangles how S.POINTS S.triangles) m) }
 {
-    for k in 0usize..m {
-        put3(buffer, at + 3 * k, normal);
-    }
-}
-
-fn put_eight(buffer: &mut [f32], at: usize, t: Stand, ps: [Vec3; 8], m: usize)
-    requires { (m ≤ 8) × (at + 3 * m ≤ length buffer.old) }
-    ensures { buffer.new ≡ laid buffer.old at (chain (λ k. three (stood t (get_or ps k off3))) m) }
-{
-    for k in 0usize..m {
-        put3(
-            buffer,
-            at + 3 * k,
-            placement::placement::stand_point(t, ps[k]),
-        );
-    }
-}
-
-fn put_twelve(buffer: &mut [f32], at: usize, t: Stand, ps: [Vec3; 12], m: usize)
-    requires { (m ≤ 12) × (at + 3 * m ≤ length buffer.old) }
-    ensures { buffer.new ≡ laid buffer.old at (chain (λ k. three (stood t (get_or ps k off3))) m) }
-{
-    for k in 0usize..m {
-        put3(
-            buffer,
-            at + 3 * k,
-            placement::placement::stand_point(t, ps[k]),
-        );
-    }
-}
-
-fn put_eight_uvs(buffer: &mut [f32], at: usize, ts: [Vec2; 8], m: usize)
-    requires { (m ≤ 8) × (at + 2 * m ≤ length buffer.old) }
-    ensures { buffer.new ≡ laid buffer.old at (chain (λ k. two (get_or ts k off2)) m) }
-{
-    for k in 0usize..m {
-        put2(buffer, at + 2 * k, ts[k]);
-    }
-}
-
-fn put_twelve_uvs(buffer: &mut [f32], at: usize, ts: [Vec2; 12], m: usize)
-    requires { (m ≤ 12) × (at + 2 * m ≤ length buffer.old) }
-    ensures { buffer.new ≡ laid buffer.old at (chain (λ k. two (get_or ts k off2)) m) }
-{
-    for k in 0usize..m {
-        put2(buffer, at + 2 * k, ts[k]);
-    }
-}
-
-// The first m triangles of a quad with its inset, whose vertices come after b others.
-fn put_quad_triangles(buffer: &mut [u16], at: IndexPlace, how: Inset, b: VertexNumber, m: usize)
-    requires m_in_bounds { (m ≤ length (inset_triangles how 4 quad_triangles)) × (m ≤ 10) }
-    requires how_bound { (b.0 + (inset_counts how 4 2).vertices.0 ≤ 65536) × (at.0 + 3 * m ≤ length buffer.old) }
-    ensures { buffer.new ≡ laid buffer.old at.0 (first_corners b.0 (inset_triangles how 4 quad_triangles) m) }
-{
-    for k in 0usize..m {
-        let t = face::triangle::quad_triangle(how, k);
+    for k in 0..m {
+        let t = triangle_of::<S>(how, k);
         put_corners(buffer, IndexPlace(at.0 + 3 * k), b, t);
     }
 }
 
-fn put_hexagon_triangles(buffer: &mut [u16], at: IndexPlace, how: Inset, b: VertexNumber, m: usize)
-    requires m_in_bounds { (m ≤ length (inset_triangles how 6 hexagon_triangles)) × (m ≤ 16) }
-    requires how_bound { (b.0 + (inset_counts how 6 4).vertices.0 ≤ 65536) × (at.0 + 3 * m ≤ length buffer.old) }
-    ensures { buffer.new ≡ laid buffer.old at.0 (first_corners b.0 (inset_triangles how 6 hexagon_triangles) m) }
-{
-    for k in 0usize..m {
-        let t = face::triangle::hexagon_triangle(how, k);
-        put_corners(buffer, IndexPlace(at.0 + 3 * k), b, t);
-    }
-}
-
-fn put_quad(
+fn put_face<S: Shape, const N: usize>(
     t: Stand,
     how: Inset,
-    q: InsetQuad,
+    ps: [Vec3; N],
+    normal: Vec3,
+    ts: [Vec2; N],
     at: Counts,
     vertices: &mut [f32],
     normals: &mut [f32],
     uvs: &mut [f32],
     indices: &mut [u16],
 )
-    requires { fits at (inset_counts how 4 2) (lending vertices normals uvs indices) ≡ true }
-    ensures { Become (lay (standing t (quad_mesh how q)) at) vertices normals uvs indices }
+    requires points { 2 * S.POINTS ≤ N }
+    requires room { fits at (inset_counts how S.POINTS S.TRIANGLES) (lending vertices normals uvs indices) ≡ true }
+    ensures { Become (lay (standing t (inset_mesh how S.POINTS S.TRIANGLES S.triangles ps.entry normal ts.entry)) at) vertices normals uvs indices }
 {
-    let normal = placement::placement::stand_normal(t, q.normal);
-    let size = face::triangle::quad_counts(how);
+    let size = counts_of::<S>(how);
     let b = at.vertices.0;
     let m = size.vertices.0;
-    let ps = q.positions;
-    let ts = q.uvs;
-    put_eight(vertices, 3 * b, t, ps, m);
-    put_normals(normals, 3 * b, normal, m);
-    put_eight_uvs(uvs, 2 * b, ts, m);
-    put_quad_triangles(indices, at.indices, how, at.vertices, size.indices.0 / 3);
+    put_stood(vertices, 3 * b, t, ps, m);
+    put_normals(normals, 3 * b, stand_normal(t, normal), m);
+    put_all(uvs, 2 * b, ts, m);
+    put_triangles::<S>(indices, at.indices, how, at.vertices, size.indices.0 / 3);
+}
+
+// Lays a face with its inset where it comes to stand. Answers whether there was room; where there was none nothing is
+// written.
+fn lay_face<S: Shape, const N: usize>(
+    t: Stand,
+    how: Inset,
+    ps: [Vec3; N],
+    normal: Vec3,
+    ts: [Vec2; N],
+    at: Counts,
+    vertices: &mut [f32],
+    normals: &mut [f32],
+    uvs: &mut [f32],
+    indices: &mut [u16],
+) -> bool
+    requires { 2 * S.POINTS ≤ N }
+    ensures room { result ≡ fits at (size_of (standing t (inset_mesh how S.POINTS S.TRIANGLES S.triangles ps.entry normal ts.entry))) (entering vertices normals uvs indices) }
+    ensures buffers { Become (laid_if_fits (standing t (inset_mesh how S.POINTS S.TRIANGLES S.triangles ps.entry normal ts.entry)) at) vertices normals uvs indices }
+{
+    let size = counts_of::<S>(how);
+    let fits = has_room(
+        at,
+        size,
+        vertices.len(),
+        normals.len(),
+        uvs.len(),
+        indices.len(),
+    );
+    if fits {
+        put_face::<S, N>(t, how, ps, normal, ts, at, vertices, normals, uvs, indices);
+    }
+    fits
 }
 
 // Lays a quad with its inset where it comes to stand: four vertices, or eight. Answers whether there was room; where
@@ -210,19 +233,18 @@ pub fn lay_quad(
     ensures room { result ≡ fits at (size_of (standing t (quad_mesh how q))) (entering vertices normals uvs indices) }
     ensures buffers { Become (laid_if_fits (standing t (quad_mesh how q)) at) vertices normals uvs indices }
 {
-    let size = face::triangle::quad_counts(how);
-    if has_room(
+    lay_face::<Quad, 8>(
+        t,
+        how,
+        q.positions,
+        q.normal,
+        q.uvs,
         at,
-        size,
-        vertices.len(),
-        normals.len(),
-        uvs.len(),
-        indices.len(),
-    ) {
-        put_quad(t, how, q, at, vertices, normals, uvs, indices);
-        return true;
-    }
-    false
+        vertices,
+        normals,
+        uvs,
+        indices,
+    )
 }
 
 // A quad inset, then laid where it comes to stand, if there is room: a part of a wall.
@@ -242,31 +264,6 @@ pub fn lay_wall(
     lay_quad(t, how, part, at, vertices, normals, uvs, indices);
 }
 
-fn put_hexagon(
-    t: Stand,
-    how: Inset,
-    h: InsetHexagon,
-    at: Counts,
-    vertices: &mut [f32],
-    normals: &mut [f32],
-    uvs: &mut [f32],
-    indices: &mut [u16],
-)
-    requires { fits at (inset_counts how 6 4) (lending vertices normals uvs indices) ≡ true }
-    ensures { Become (lay (standing t (hexagon_mesh how h)) at) vertices normals uvs indices }
-{
-    let normal = placement::placement::stand_normal(t, h.normal);
-    let size = face::triangle::hexagon_counts(how);
-    let b = at.vertices.0;
-    let m = size.vertices.0;
-    let ps = h.positions;
-    let ts = h.uvs;
-    put_twelve(vertices, 3 * b, t, ps, m);
-    put_normals(normals, 3 * b, normal, m);
-    put_twelve_uvs(uvs, 2 * b, ts, m);
-    put_hexagon_triangles(indices, at.indices, how, at.vertices, size.indices.0 / 3);
-}
-
 // The same of a hexagon: six vertices, or twelve.
 pub fn lay_hexagon(
     t: Stand,
@@ -281,62 +278,21 @@ pub fn lay_hexagon(
     ensures room { result ≡ fits at (size_of (standing t (hexagon_mesh how h))) (entering vertices normals uvs indices) }
     ensures buffers { Become (laid_if_fits (standing t (hexagon_mesh how h)) at) vertices normals uvs indices }
 {
-    let size = face::triangle::hexagon_counts(how);
-    if has_room(
+    lay_face::<Hexagon, 12>(
+        t,
+        how,
+        h.positions,
+        h.normal,
+        h.uvs,
         at,
-        size,
-        vertices.len(),
-        normals.len(),
-        uvs.len(),
-        indices.len(),
-    ) {
-        put_hexagon(t, how, h, at, vertices, normals, uvs, indices);
-        return true;
-    }
-    false
+        vertices,
+        normals,
+        uvs,
+        indices,
+    )
 }
 
-// Of a face without an inset: the first m of its points, its uvs and its triangles.
-fn put_six(buffer: &mut [f32], at: usize, ps: [Vec3; 6], m: usize)
-    requires { (m ≤ 6) × (at + 3 * m ≤ length buffer.old) }
-    ensures { buffer.new ≡ laid buffer.old at (chain (λ k. three (get_or ps k off3)) m) }
-{
-    for k in 0usize..m {
-        put3(buffer, at + 3 * k, ps[k]);
-    }
-}
-
-fn put_six_uvs(buffer: &mut [f32], at: usize, ts: [Vec2; 6], m: usize)
-    requires { (m ≤ 6) × (at + 2 * m ≤ length buffer.old) }
-    ensures { buffer.new ≡ laid buffer.old at (chain (λ k. two (get_or ts k off2)) m) }
-{
-    for k in 0usize..m {
-        put2(buffer, at + 2 * k, ts[k]);
-    }
-}
-
-fn plain_triangle(m: usize, k: usize) -> Triangle
-    ensures { result ≡ get_or (plain_triangles m) k no_triangle }
-{
-    if m == 4 {
-        return face::triangle::quad_triangle(Inset::None, k);
-    }
-    face::triangle::hexagon_triangle(Inset::None, k)
-}
-
-fn put_plain_triangles(buffer: &mut [u16], at: IndexPlace, b: VertexNumber, m: usize, n: usize)
-    requires { Plainly m n × ((b.0 + m ≤ 65536) × (at.0 + 3 * n ≤ length buffer.old)) }
-    ensures { buffer.new ≡ laid buffer.old at.0 (first_corners b.0 (plain_triangles m) n) }
-{
-    for k in 0usize..n {
-        let t = plain_triangle(m, k);
-        put_corners(buffer, IndexPlace(at.0 + 3 * k), b, t);
-    }
-}
-
-fn put_plain(
-    m: usize,
-    n: usize,
+fn put_plain<S: Shape>(
     f: Plain,
     at: Counts,
     vertices: &mut [f32],
@@ -344,22 +300,18 @@ fn put_plain(
     uvs: &mut [f32],
     indices: &mut [u16],
 )
-    requires { Plainly m n × (fits at (counts m (3 * n)) (lending vertices normals uvs indices) ≡ true) }
-    ensures { Become (lay (plain_mesh m f) at) vertices normals uvs indices }
+    requires { fits at (counts S.POINTS (3 * S.TRIANGLES)) (lending vertices normals uvs indices) ≡ true }
+    ensures { Become (lay (face_of S.POINTS f.positions f.normal f.uvs S.triangles) at) vertices normals uvs indices }
 {
     let b = at.vertices.0;
-    let ps = f.positions;
-    let ts = f.uvs;
-    put_six(vertices, 3 * b, ps, m);
-    put_normals(normals, 3 * b, f.normal, m);
-    put_six_uvs(uvs, 2 * b, ts, m);
-    put_plain_triangles(indices, at.indices, at.vertices, m, n);
+    put_all(vertices, 3 * b, f.positions, S::POINTS);
+    put_normals(normals, 3 * b, f.normal, S::POINTS);
+    put_all(uvs, 2 * b, f.uvs, S::POINTS);
+    put_triangles::<S>(indices, at.indices, Inset::None, at.vertices, S::TRIANGLES);
 }
 
-// Of m points and n triangles.
-fn lay_plain(
-    m: usize,
-    n: usize,
+// A face without an inset, as it stands, if there is room.
+fn lay_plain<S: Shape>(
     f: Plain,
     at: Counts,
     vertices: &mut [f32],
@@ -367,26 +319,20 @@ fn lay_plain(
     uvs: &mut [f32],
     indices: &mut [u16],
 )
-    requires { Plainly m n }
-    ensures { Become (laid_if_fits (plain_mesh m f) at) vertices normals uvs indices }
+    ensures { Become (laid_if_fits (face_of S.POINTS f.positions f.normal f.uvs S.triangles) at) vertices normals uvs indices }
 {
-    let size = Counts {
-        vertices: VertexNumber(m),
-        indices: IndexPlace(3 * n),
-    };
     if has_room(
         at,
-        size,
+        counts_of::<S>(Inset::None),
         vertices.len(),
         normals.len(),
         uvs.len(),
         indices.len(),
     ) {
-        put_plain(m, n, f, at, vertices, normals, uvs, indices);
+        put_plain::<S>(f, at, vertices, normals, uvs, indices);
     }
 }
 
-// A quad without an inset, as it stands, if there is room.
 pub fn lay_plain_quad(
     f: Plain,
     at: Counts,
@@ -397,10 +343,9 @@ pub fn lay_plain_quad(
 )
     ensures { Become (laid_if_fits (plain_mesh 4 f) at) vertices normals uvs indices }
 {
-    lay_plain(4, 2, f, at, vertices, normals, uvs, indices);
+    lay_plain::<Quad>(f, at, vertices, normals, uvs, indices);
 }
 
-// The same of a hexagon.
 pub fn lay_plain_hexagon(
     f: Plain,
     at: Counts,
@@ -411,5 +356,5 @@ pub fn lay_plain_hexagon(
 )
     ensures { Become (laid_if_fits (plain_mesh 6 f) at) vertices normals uvs indices }
 {
-    lay_plain(6, 4, f, at, vertices, normals, uvs, indices);
+    lay_plain::<Hexagon>(f, at, vertices, normals, uvs, indices);
 }

@@ -1,14 +1,14 @@
 // A face without an inset, by value where it stands. Speed alone asks for it: what is so small is made and laid at one
 // go, where a face with its inset goes through memory.
-ghost use Rattle.std.specs.Prelude.{◌≡◌, ◌++◌};
+ghost use Rattle.std.specs.Prelude.{◌≡◌, ◌<◌, map};
 ghost use Rattle.placement.specs.Placing.{stood};
 ghost use Rattle.placement.specs.Speed.{shift_of};
-ghost use Rattle.buffers.specs.Plain.{points_by, uvs_of, shifted_quad, stood_quad, stood_hexagon};
+ghost use Rattle.buffers.specs.Plain.{six_of, shifted_quad, stood_quad, stood_hexagon};
 
 use face::face::Quad;
 use face::inset::InsetHexagon;
-use face::vec::{Vec2, Vec3};
-use placement::placement::Stand;
+use face::vec::{Point, Vec2, Vec3};
+use placement::placement::{Stand, is_shift, shift_point, stand_normal, stand_point};
 
 // The six points of a hexagon; or the four of a quad, and two that are not laid.
 #[derive(Clone, Copy)]
@@ -18,113 +18,70 @@ pub struct Plain {
     pub uvs: [Vec2; 6],
 }
 
-fn shift_four(t: Stand, ps: [Vec3; 4]) -> [Vec3; 6]
-    ensures { result ≡ points_by (shift_of t) (ps ++ ps) }
+fn shift_all<const N: usize>(t: Stand, ps: [Vec3; N]) -> [Vec3; N]
+    ensures { result ≡ map (shift_of t) ps.entry }
 {
-    let a = placement::placement::shift_point(t, ps[0]);
-    let b = placement::placement::shift_point(t, ps[1]);
-    let c = placement::placement::shift_point(t, ps[2]);
-    let d = placement::placement::shift_point(t, ps[3]);
-    [a, b, c, d, a, b]
+    let mut out = ps;
+    for k in 0..N {
+        out[k] = shift_point(t, ps[k]);
+    }
+    out
 }
 
-fn stand_four(t: Stand, ps: [Vec3; 4]) -> [Vec3; 6]
-    ensures { result ≡ points_by (stood t) (ps ++ ps) }
+fn stand_all<const N: usize>(t: Stand, ps: [Vec3; N]) -> [Vec3; N]
+    ensures { result ≡ map (stood t) ps.entry }
 {
-    let a = placement::placement::stand_point(t, ps[0]);
-    let b = placement::placement::stand_point(t, ps[1]);
-    let c = placement::placement::stand_point(t, ps[2]);
-    let d = placement::placement::stand_point(t, ps[3]);
-    [a, b, c, d, a, b]
+    if is_shift(t) {
+        return shift_all(t, ps);
+    }
+    let mut out = ps;
+    for k in 0..N {
+        out[k] = stand_point(t, ps[k]);
+    }
+    out
 }
 
-fn four_uvs(ts: [Vec2; 4]) -> [Vec2; 6]
-    ensures { result ≡ uvs_of (ts ++ ts) }
+// The first six; of fewer, the first ones again.
+fn six<P: Point, const N: usize>(ps: [P; N]) -> [P; 6]
+    requires { 0 < N }
+    ensures { result ≡ six_of P.off ps }
 {
-    [ts[0], ts[1], ts[2], ts[3], ts[0], ts[1]]
+    let mut out = [P::zero(); 6];
+    for k in 0..6 {
+        out[k] = ps[k % N];
+    }
+    out
 }
 
 // A quad that is only moved.
 pub fn shift_quad(t: Stand, q: Quad) -> Plain
     ensures { result ≡ shifted_quad t q }
 {
-    let ps = q.positions;
-    let ts = q.uvs;
-    let normal = q.normal;
-    let positions = shift_four(t, ps);
-    let uvs = four_uvs(ts);
     Plain {
-        positions: positions,
-        normal: normal,
-        uvs: uvs,
+        positions: six(shift_all(t, q.positions)),
+        normal: q.normal,
+        uvs: six(q.uvs),
     }
 }
 
 pub fn stand_quad(t: Stand, q: Quad) -> Plain
     ensures { result ≡ stood_quad t q }
 {
-    if placement::placement::is_shift(t) {
-        return shift_quad(t, q);
-    }
-    let ps = q.positions;
-    let ts = q.uvs;
-    let normal = placement::placement::stand_normal(t, q.normal);
-    let positions = stand_four(t, ps);
-    let uvs = four_uvs(ts);
     Plain {
-        positions: positions,
-        normal: normal,
-        uvs: uvs,
+        positions: six(stand_all(t, q.positions)),
+        normal: stand_normal(t, q.normal),
+        uvs: six(q.uvs),
     }
-}
-
-fn shift_outer(t: Stand, ps: [Vec3; 12]) -> [Vec3; 6]
-    ensures { result ≡ points_by (shift_of t) ps }
-{
-    [
-        placement::placement::shift_point(t, ps[0]),
-        placement::placement::shift_point(t, ps[1]),
-        placement::placement::shift_point(t, ps[2]),
-        placement::placement::shift_point(t, ps[3]),
-        placement::placement::shift_point(t, ps[4]),
-        placement::placement::shift_point(t, ps[5]),
-    ]
-}
-
-fn stand_outer(t: Stand, ps: [Vec3; 12]) -> [Vec3; 6]
-    ensures { result ≡ points_by (stood t) ps }
-{
-    if placement::placement::is_shift(t) {
-        return shift_outer(t, ps);
-    }
-    [
-        placement::placement::stand_point(t, ps[0]),
-        placement::placement::stand_point(t, ps[1]),
-        placement::placement::stand_point(t, ps[2]),
-        placement::placement::stand_point(t, ps[3]),
-        placement::placement::stand_point(t, ps[4]),
-        placement::placement::stand_point(t, ps[5]),
-    ]
-}
-
-fn outer_uvs(ts: [Vec2; 12]) -> [Vec2; 6]
-    ensures { result ≡ uvs_of ts }
-{
-    [ts[0], ts[1], ts[2], ts[3], ts[4], ts[5]]
 }
 
 // The outer points of a hexagon: where it has no inset, no others are laid.
 pub fn stand_hexagon(t: Stand, h: InsetHexagon) -> Plain
     ensures { result ≡ stood_hexagon t h }
 {
-    let ps = h.positions;
-    let ts = h.uvs;
-    let normal = placement::placement::stand_normal(t, h.normal);
-    let positions = stand_outer(t, ps);
-    let uvs = outer_uvs(ts);
+    let normal = stand_normal(t, h.normal);
     Plain {
-        positions: positions,
-        normal: normal,
-        uvs: uvs,
+        positions: stand_all(t, six(h.positions)),
+        normal,
+        uvs: six(h.uvs),
     }
 }

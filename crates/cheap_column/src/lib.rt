@@ -52,7 +52,7 @@ fn is_in_range(job: CheapColumn, corners: &[f32]) -> bool
 fn from_middle(top: [Vec3; 6], middle: Vec3) -> [Vec3; 6]
     ensures { result ≡ map (λ p. minus3 p middle) top }
 {
-    top.map(|p| face::vec::sub3(p, middle))
+    top.map(|p| p - middle)
 }
 
 // What the numbers of a vertex are: three of a point, two of a uv.

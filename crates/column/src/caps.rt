@@ -20,7 +20,7 @@ fn top_offset(height: f32) -> Vec3
         y: height,
         z: 0.0 * height,
     };
-    face::vec::add3(ORIGIN, up)
+    ORIGIN + up
 }
 
 pub fn top_stand(job: crate::Column) -> Stand

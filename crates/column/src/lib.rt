@@ -15,6 +15,7 @@ ghost use Rattle.column.specs.Column.{parts_of, delta, all_named, lists, lent, s
 ghost use Rattle.column.specs.Counts.{many, side_counts, cap_counts, sides_counts, column_counts};
 
 use answer::answer::{Answer, Refusal};
+use face::face::{Hexagon, Quad};
 use face::triangle::{Counts, IndexPlace, VertexNumber};
 use face::vec::Vec2;
 use placement::options::Choice;
@@ -119,7 +120,7 @@ pub fn side_counts(c: Choice, s: u32, numbers: &[f32], marks: &[u8]) -> Counts
         Choice::Absent => zero(),
         Choice::With(k) => {
             let inset = placement::options::option_at(numbers, marks, k).inset;
-            times(s, face::triangle::quad_counts(inset))
+            times(s, face::triangle::counts_of::<Quad>(inset))
         }
     }
 }
@@ -131,7 +132,7 @@ pub fn cap_counts(c: Choice, numbers: &[f32], marks: &[u8]) -> Counts
         Choice::Absent => zero(),
         Choice::With(k) => {
             let inset = placement::options::option_at(numbers, marks, k).inset;
-            face::triangle::hexagon_counts(inset)
+            face::triangle::counts_of::<Hexagon>(inset)
         }
     }
 }

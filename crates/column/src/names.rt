@@ -3,6 +3,7 @@ ghost use Rattle.std.specs.Prelude.{◌≡◌, length};
 ghost use Rattle.column.specs.Column.{column_names};
 ghost use Rattle.column.specs.Names.{name_at, side_faces, cap_name, piece_of, start_by};
 
+use face::face::Quad;
 use face::triangle::Counts;
 use placement::options::Choice;
 use placement::placement::Stand;
@@ -81,7 +82,7 @@ pub fn start_of(job: crate::Column, name: crate::Name, numbers: &[f32], marks: &
         crate::Name::OfSide(d, p) => {
             let side = crate::side_option(job.sides, d);
             let inset = placement::options::option_for(side, numbers, marks).inset;
-            let below = crate::times(p, face::triangle::quad_counts(inset));
+            let below = crate::times(p, face::triangle::counts_of::<Quad>(inset));
             crate::add(
                 crate::sides_counts(job.sides, d, parts, numbers, marks),
                 below,

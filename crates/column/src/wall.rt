@@ -35,7 +35,7 @@ pub fn wall_of(job: crate::Column, d: u8, pairs: &[f32], numbers: &[f32], marks:
         right,
         delta: crate::delta_of(job),
         normal: base.normal,
-        uvs: face::uv_mapping::alter_four(o.uv, base.uvs),
+        uvs: face::uv_mapping::alter(o.uv, base.uvs),
         inset: o.inset,
         stand: placement::placement::stand_by(
             Choice3::Absent,

@@ -4,6 +4,7 @@ ghost use Rattle.column.specs.Column.{lent, faces_told, window_told};
 ghost use Rattle.column.specs.Names.{size_by};
 
 use answer::answer::Refusal;
+use face::face::{Hexagon, Quad};
 use face::triangle::Counts;
 use mesh::windows::{Faces, Window};
 
@@ -27,12 +28,14 @@ fn size_of(job: crate::Column, name: crate::Name, numbers: &[f32], marks: &[u8])
     match name {
         crate::Name::OfSide(d, _) => {
             let side = crate::side_option(job.sides, d);
-            face::triangle::quad_counts(placement::options::option_for(side, numbers, marks).inset)
+            face::triangle::counts_of::<Quad>(
+                placement::options::option_for(side, numbers, marks).inset,
+            )
         }
-        crate::Name::Top => face::triangle::hexagon_counts(
+        crate::Name::Top => face::triangle::counts_of::<Hexagon>(
             placement::options::option_for(job.top, numbers, marks).inset,
         ),
-        crate::Name::Bottom => face::triangle::hexagon_counts(
+        crate::Name::Bottom => face::triangle::counts_of::<Hexagon>(
             placement::options::option_for(job.bottom, numbers, marks).inset,
         ),
     }

@@ -110,7 +110,7 @@ fn put_parts(
     ensures buffers { Become (lay_each (each (part_mesh w) parts) at) vertices normals uvs indices }
 {
     let inset = w.inset;
-    let size = face::triangle::quad_counts(inset);
+    let size = face::triangle::counts_of::<face::face::Quad>(inset);
     let mut place = at;
     for p in 0usize..parts {
         put_part(w, p as u32, place, vertices, normals, uvs, indices);

@@ -1,17 +1,14 @@
--- Loops over a face of any number of points: one that fills an array, and one that sums. Assumes nothing.
+-- Lists counted out, and a loop over a face of any number of points that fills an array. Assumes nothing.
 use mathlib.Core.Path.{◌≡◌, refl, sym, ap, ap₂, ◌∙◌}
 use mathlib.Core.Logic.{◌⊎◌, inl, inr}
-use mathlib.Core.List.{List, [], ◌∷◌, ◌++◌, map, map-append, foldl, append-nil, foldl-append}
+use mathlib.Core.List.{List, [], ◌∷◌, ◌++◌, map, map-append, append-nil}
 use Prim.Native.Nat.{ℕ, zero, suc, ◌+◌, ◌≤◌, ◌<◌}
 use native.Mathlib.Nat.{le_of_lt, eq-or-lt_of_le, le_of_suc-le-suc}
 use native.Mathlib.Numerals.{add-one}
 use native.Mathlib.Omega.{arith}
 use lib.ListN.{length, get_or, set, take, drop, length-append, drop_of_length-le, get_or-append}
 use lib.Seq.{get_or-append-add, drop-cons, set_at, append_snoc, take-suc, take_all}
-use lib.IntN.{pos}
-use lib.Ieee.{Float, binary32, of_int, of_bits}
 use Rattle.face.specs.Lists.{each, chain}
-use Rattle.face.specs.Vec.{middle}
 
 module _ {A : Type 0} where
   pub length-each : (g : ℕ → A) (n : ℕ) → length (each g n) ≡ n
@@ -79,28 +76,3 @@ module _ {A : Type 0} where
   pub filled-map : {B : Type 0} (f : B → A) (l : List B) (z : B) (m : ℕ) (d : List A) (i : ℕ) (out : List A) → Filled (λ v. f (get_or l v z)) m d i out → m ≤ i → length d ≡ m → length l ≡ m
       → out ≡ map f l
   filled-map f l z m d i out h e n k = filled-all _ m d i out h e n ∙ each_map f l z m k
-
--- ---- the sum of the first i points
-module _ {A : Type 0} (plus : A → A → A) (zero : A) where
-  abbrev pub Summed : List A → ℕ → ℕ → A → Type 0
-  Summed ps m i t = (i ≤ m) × (t ≡ foldl plus zero (take i ps))
-
-  foldl-more : (l : List A) (z : A) (n : ℕ) → n < length l → plus (foldl plus zero (take n l)) (get_or l n z) ≡ foldl plus zero (take (n + 1) l)
-  foldl-more l z n h = rw (add-one n, take-suc l n z h, foldl-append)
-
-  pub summed-more : (ps : List A) (m : ℕ) (z : A) (i : ℕ) (t u : A) → Summed ps m i t → i < m → length ps ≡ m → u ≡ plus t (get_or ps i z) → Summed ps m (i + 1) u
-  summed-more ps m z i t u s h l e = (omega arith, e ∙ rw s.1 (foldl-more ps z i (omega arith)))
-
-  -- all are taken, and the code's divisor d is their number
-  pub middle-done : (over : A → Float → A) (ps : List A) (m i : ℕ) (t : A) (d : Float) → Summed ps m i t → m ≤ i → length ps ≡ m → of_int binary32 (pos m) ≡ d → over t d ≡ middle plus zero over ps
-  middle-done over ps m i t d s h l k =
-      let e : i ≡ m = omega arith in
-      rw (s.1, e, take_all m ps (let g : length ps ≤ m = omega arith in g), l, k)
-
-pub four : of_int binary32 (pos 4) ≡ of_bits binary32 0x4080_0000
-unfolding of_int of_bits
-four = refl
-
-pub six : of_int binary32 (pos 6) ≡ of_bits binary32 0x40c0_0000
-unfolding of_int of_bits
-six = refl

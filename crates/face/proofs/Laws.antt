@@ -19,6 +19,8 @@ use Rattle.face.specs.Lists.{chain}
 use Rattle.face.specs.Vec.{f0}
 use Rattle.face.specs.Inset.{next_of, inner_points, inner_uvs}
 use Rattle.face.specs.Triangles.{no_triangle, first_of, second_of, reversed_if, connecting, shifted, kept, ringed, inset_triangles, inset_counts, quad_triangles, hexagon_triangles}
+pub use Rattle.face.specs.Shapes.{Below}
+use Rattle.face.specs.Shapes.{quad_is_shape, hexagon_is_shape}
 use Rattle.face.proofs.Filling.{length-each}
 use Rattle.face.proofs.Ring.{length_pairs, first-at, second_at, ring-low, ring-high}
 
@@ -105,9 +107,6 @@ inner-triangle k m ts i h =
     ∙ map_at (shifted m) ts i h
 
 -- ---- every index is below 2V
-abbrev pub Below : ℕ → Triangle → Type 0
-Below n t = (t.0.0 < n) × (t.1.0 < n) × (t.2.0 < n)
-
 reversed-below : (back : Bool) (n : ℕ) (t : Triangle) → Below n t → Below n (reversed_if back t)
 reversed-below true n t h = (h.2, h.1, h.0)
 reversed-below false n t h = h
@@ -162,26 +161,11 @@ indices-below (Centroid k keep) m ts p b i h = ring-below k keep m ts b p i
 indices-below (SmallestEdge k keep) m ts p b i h = ring-below k keep m ts b p i
 
 -- ---- at four and at six
-small : {n a b c : ℕ} → T (ltb a n) → T (ltb b n) → T (ltb c n) → (a < n) × (b < n) × (c < n)
-small {n} {a} {b} {c} x y z = (ltb→lt a n x, ltb→lt b n y, ltb→lt c n z)
-
-quad-own : (i : ℕ) → i < 2 → Below 4 (get_or quad_triangles i no_triangle)
-quad-own zero h = small tt tt tt
-quad-own (suc zero) h = small tt tt tt
-quad-own (suc (suc i)) h = absurd (let g : suc (suc i) < 2 = h in omega arith)
-
-hexagon-own : (i : ℕ) → i < 4 → Below 6 (get_or hexagon_triangles i no_triangle)
-hexagon-own zero h = small tt tt tt
-hexagon-own (suc zero) h = small tt tt tt
-hexagon-own (suc (suc zero)) h = small tt tt tt
-hexagon-own (suc (suc (suc zero))) h = small tt tt tt
-hexagon-own (suc (suc (suc (suc i)))) h = absurd (let g : suc (suc (suc (suc i))) < 4 = h in omega arith)
-
 pub quad-indices-below : (how : Inset) (i : ℕ) → i < length (inset_triangles how 4 quad_triangles) → Below (inset_counts how 4 2).vertices.0 (get_or (inset_triangles how 4 quad_triangles) i no_triangle)
-quad-indices-below how = indices-below how 4 quad_triangles (omega arith) quad-own
+quad-indices-below how = indices-below how 4 quad_triangles quad_is_shape.some quad_is_shape.own
 
 pub hexagon-indices-below : (how : Inset) (i : ℕ) → i < length (inset_triangles how 6 hexagon_triangles) → Below (inset_counts how 6 4).vertices.0 (get_or (inset_triangles how 6 hexagon_triangles) i no_triangle)
-hexagon-indices-below how = indices-below how 6 hexagon_triangles (omega arith) hexagon-own
+hexagon-indices-below how = indices-below how 6 hexagon_triangles hexagon_is_shape.some hexagon_is_shape.own
 
 pub quad-index-count : (how : Inset) → 3 * length (inset_triangles how 4 quad_triangles) ≡ (inset_counts how 4 2).indices.0
 quad-index-count how = index-count how 4 quad_triangles

@@ -5,3 +5,4 @@ pub mod Speed
 pub mod Face
 pub mod Inset
 pub mod Triangles
+pub mod Shapes

@@ -3,7 +3,7 @@ ghost use Rattle.std.specs.Prelude.{◌≡◌, map};
 ghost use Rattle.face.specs.Vec.{upright};
 ghost use Rattle.face.specs.Face.{quad_with, quad_of, reached, bounded_quad_of, hexagon_of};
 
-use crate::vec::{Vec2, Vec3};
+use crate::vec::{Point, Vec2, Vec3};
 
 #[derive(Clone, Copy)]
 pub struct Quad {
@@ -23,11 +23,7 @@ pub struct Hexagon {
 pub fn raise(p: Vec2, y: f32) -> Vec3
     ensures { result ≡ upright p y }
 {
-    Vec3 {
-        x: p.x,
-        y: y,
-        z: p.y,
-    }
+    Vec3 { x: p.x, y, z: p.y }
 }
 
 // 2 - 1
@@ -36,7 +32,8 @@ pub fn raise(p: Vec2, y: f32) -> Vec3
 fn quad_with(left: Vec2, right: Vec2, bottom: f32, top: f32, bv: f32, tv: f32) -> Quad
     ensures { result ≡ quad_with left right bottom top bv tv }
 {
-    let normal = raise(crate::vec::normalize2(crate::vec::add2(left, right)), 0.0);
+    let across = left + right;
+    let normal = raise(across.direction(across.length()), 0.0);
     let positions = [
         raise(right, bottom),
         raise(right, top),
@@ -50,9 +47,9 @@ fn quad_with(left: Vec2, right: Vec2, bottom: f32, top: f32, bv: f32, tv: f32) -
         Vec2 { x: 0.0, y: bv },
     ];
     Quad {
-        positions: positions,
-        normal: normal,
-        uvs: uvs,
+        positions,
+        normal,
+        uvs,
     }
 }
 
@@ -85,15 +82,7 @@ pub fn new_bounded_quad(left: Vec2, right: Vec2, bottom: f32, top: f32, min: f32
 pub fn raise_six(cs: [Vec2; 6], y: f32) -> [Vec3; 6]
     ensures { result ≡ map (λ p. upright p y) cs }
 {
-    let mut out = [Vec3 {
-        x: 0.0,
-        y: 0.0,
-        z: 0.0,
-    }; 6];
-    for i in 0usize..6 {
-        out[i] = raise(cs[i], y);
-    }
-    out
+    cs.map(|c| raise(c, y))
 }
 
 // A hexagon from its six corners, at height 0.
@@ -103,12 +92,12 @@ pub fn new_hexagon(corners: [Vec2; 6]) -> Hexagon
     let positions = raise_six(corners, 0.0);
     let uvs = crate::uv_mapping::wrap_six(corners);
     Hexagon {
-        positions: positions,
+        positions,
         normal: Vec3 {
             x: 0.0,
             y: 1.0,
             z: 0.0,
         },
-        uvs: uvs,
+        uvs,
     }
 }

@@ -32,9 +32,5 @@ pub struct InsetHexagon {
 pub fn is_none(how: Inset) -> bool
     ensures { result ≡ is_none how }
 {
-    match how {
-        Inset::None => true,
-        Inset::Centroid(_, _) => false,
-        Inset::SmallestEdge(_, _) => false,
-    }
+    matches!(how, Inset::None)
 }

@@ -5,7 +5,7 @@ ghost use Rattle.face.specs.Vec.{length2, reciprocal};
 ghost use Rattle.face.specs.Texture.{plain, component, altered, unit_or, halved, wrapped};
 ghost use Rattle.face.specs.Speed.{same, one_of_both};
 
-use crate::vec::Vec2;
+use crate::vec::{Point, Vec2, is_ordinary, is_usable, one_over};
 
 #[derive(Clone, Copy)]
 pub struct Flip {
@@ -23,15 +23,17 @@ pub struct UvOptions {
 }
 
 // Scale 1, offset 0, the whole rectangle, no flip: but for -0, which becomes +0, nothing changes.
-pub fn default_options() -> UvOptions
-    ensures { result ≡ plain }
-{
-    UvOptions {
-        scale: Vec2 { x: 1.0, y: 1.0 },
-        offset: Vec2 { x: 0.0, y: 0.0 },
-        min: Vec2 { x: 0.0, y: 0.0 },
-        max: Vec2 { x: 1.0, y: 1.0 },
-        flip: Flip { u: false, v: false },
+impl Default for UvOptions {
+    ghost is_default = { λ o. o ≡ plain };
+
+    fn default() -> UvOptions {
+        UvOptions {
+            scale: Vec2 { x: 1.0, y: 1.0 },
+            offset: Vec2 { x: 0.0, y: 0.0 },
+            min: Vec2 { x: 0.0, y: 0.0 },
+            max: Vec2 { x: 1.0, y: 1.0 },
+            flip: Flip { u: false, v: false },
+        }
     }
 }
 
@@ -41,15 +43,14 @@ fn remap(width: f32, u: f32, min: f32) -> f32
     ensures { result ≡ fma width u min }
 {
     if width == 1.0 {
-        return u + min;
+        u + min
+    } else if u == 1.0 {
+        width + min
+    } else if u == 0.0 {
+        width * u + min
+    } else {
+        arith::fused(width, u, min)
     }
-    if u == 1.0 {
-        return width + min;
-    }
-    if u == 0.0 {
-        return width * u + min;
-    }
-    arith::fused(width, u, min)
 }
 
 fn alter_component(flip: bool, scale: f32, offset: f32, min: f32, max: f32, u: f32) -> f32
@@ -68,31 +69,11 @@ pub fn alter_uv(o: UvOptions, uv: Vec2) -> Vec2
     }
 }
 
-pub fn alter_four(o: UvOptions, uvs: [Vec2; 4]) -> [Vec2; 4]
-    ensures { result ≡ map (altered o) uvs }
+pub fn alter<const N: usize>(o: UvOptions, uvs: [Vec2; N]) -> [Vec2; N]
+    ensures { result ≡ map (altered o) uvs.entry }
 {
     let mut out = uvs;
-    for i in 0usize..4 {
-        out[i] = alter_uv(o, uvs[i]);
-    }
-    out
-}
-
-pub fn alter_six(o: UvOptions, uvs: [Vec2; 6]) -> [Vec2; 6]
-    ensures { result ≡ map (altered o) uvs }
-{
-    let mut out = uvs;
-    for i in 0usize..6 {
-        out[i] = alter_uv(o, uvs[i]);
-    }
-    out
-}
-
-pub fn alter_twelve(o: UvOptions, uvs: [Vec2; 12]) -> [Vec2; 12]
-    ensures { result ≡ map (altered o) uvs }
-{
-    let mut out = uvs;
-    for i in 0usize..12 {
+    for i in 0..N {
         out[i] = alter_uv(o, uvs[i]);
     }
     out
@@ -101,26 +82,20 @@ pub fn alter_twelve(o: UvOptions, uvs: [Vec2; 12]) -> [Vec2; 12]
 fn unit_or(p: Vec2, k: f32) -> Vec2
     ensures { result ≡ unit_or p k }
 {
-    if crate::vec::is_usable(k) {
-        return crate::vec::scale2(p, k);
-    }
-    p
+    if is_usable(k) { p * k } else { p }
 }
 
 fn one_of(p: Vec2) -> f32
     ensures { result ≡ reciprocal (length2 p) }
 {
-    crate::vec::one_over(crate::vec::len2(p))
+    one_over(p.length())
 }
 
 // Whether two numbers are the same, their signs too.
 fn are_same(a: f32, b: f32) -> bool
     ensures { result ≡ same a b }
 {
-    if a == b {
-        return f32::to_bits(a) == f32::to_bits(b);
-    }
-    false
+    a == b && a.to_bits() == b.to_bits()
 }
 
 // The reciprocal length of two corners, where their squares are the same, as those of opposite ones
@@ -128,11 +103,12 @@ fn are_same(a: f32, b: f32) -> bool
 fn one_of_both(p: Vec2, q: Vec2) -> f32
     ensures { result ≡ one_of_both p q }
 {
-    let a = crate::vec::squared2(p);
-    if are_same(a, crate::vec::squared2(q)) {
-        return crate::vec::one_over(arith::root(a));
+    let a = p.squared();
+    if are_same(a, q.squared()) {
+        one_over(arith::root(a))
+    } else {
+        0.0
     }
-    0.0
 }
 
 // From about the origin to about the middle of the texture.
@@ -149,10 +125,11 @@ fn wrap_by(p: Vec2, k: f32) -> Vec2
     requires { k ≡ reciprocal (length2 p) }
     ensures { result ≡ wrapped p }
 {
-    if crate::vec::is_ordinary(k) {
-        return halve(crate::vec::scale2(p, k));
+    if is_ordinary(k) {
+        halve(p * k)
+    } else {
+        halve(unit_or(p, k))
     }
-    halve(unit_or(p, k))
 }
 
 // A corner as a texture coordinate: its direction, moved into the unit square.
@@ -174,15 +151,16 @@ fn wrap_across(p: Vec2, q: Vec2) -> Across
     ensures { (result.near ≡ wrapped p) × (result.far ≡ wrapped q) }
 {
     let k = one_of_both(p, q);
-    if crate::vec::is_ordinary(k) {
-        return Across {
-            near: halve(crate::vec::scale2(p, k)),
-            far: halve(crate::vec::scale2(q, k)),
-        };
-    }
-    Across {
-        near: wrap_uv(p),
-        far: wrap_uv(q),
+    if is_ordinary(k) {
+        Across {
+            near: halve(p * k),
+            far: halve(q * k),
+        }
+    } else {
+        Across {
+            near: wrap_uv(p),
+            far: wrap_uv(q),
+        }
     }
 }
 
@@ -192,11 +170,5 @@ pub fn wrap_six(cs: [Vec2; 6]) -> [Vec2; 6]
     let a = wrap_across(cs[0], cs[3]);
     let b = wrap_across(cs[1], cs[4]);
     let c = wrap_across(cs[2], cs[5]);
-    let t0 = a.near;
-    let t1 = b.near;
-    let t2 = c.near;
-    let t3 = a.far;
-    let t4 = b.far;
-    let t5 = c.far;
-    [t0, t1, t2, t3, t4, t5]
+    [a.near, b.near, c.near, a.far, b.far, c.far]
 }

@@ -1,8 +1,12 @@
 // Points of the plane and of space, by value. A point of the plane has x and y; on the panel its y
 // is the z of space.
-ghost use Rattle.std.specs.Prelude.{◌≡◌};
-ghost use Rattle.face.specs.Vec.{plus2, minus2, times2, plus3, minus3, times3, square2, square3, length2, length3, reciprocal, serves, unit2, unit3, middle2, middle3};
+ghost use Rattle.std.specs.Prelude.{◌≡◌, Float};
+ghost use Rattle.arith.specs.Root.{root};
+ghost use Rattle.face.specs.Vec.{plus2, minus2, times2, over2, zero2, off2, square2, plus3, minus3, times3, over3, zero3, off3, square3, reciprocal, serves, middle};
 ghost use Rattle.face.specs.Speed.{ordinary};
+
+use std::num::nearest_usize_to_f32;
+use std::ops::{Add, Div, Mul, Sub};
 
 #[derive(Clone, Copy)]
 pub struct Vec2 {
@@ -17,85 +21,253 @@ pub struct Vec3 {
     pub z: f32,
 }
 
-pub fn add2(a: Vec2, b: Vec2) -> Vec2
-    ensures { result ≡ plus2 a b }
-{
-    Vec2 {
-        x: a.x + b.x,
-        y: a.y + b.y,
+// What points of the plane and of space share. Each operator is a function of its operands, for all of them.
+pub trait Point: Copy
+    + Add<Self, Output = Self>
+    + Sub<Self, Output = Self>
+    + Mul<f32, Output = Self>
+    + Div<f32, Output = Self> {
+    ghost zero: { Self };
+
+    ghost plus: { Self → Self → Self };
+
+    ghost minus: { Self → Self → Self };
+
+    ghost times: { Self → Float → Self };
+
+    ghost over: { Self → Float → Self };
+
+    ghost square: { Self → Float };
+
+    // What a list of points has past its end.
+    ghost off: { Self };
+
+    fn zero() -> Self
+        ensures { result ≡ zero };
+
+    fn squared(self) -> f32
+        ensures { result ≡ square self };
+
+    fn length(self) -> f32
+        ensures { result ≡ root (square self) }
+    {
+        arith::root(self.squared())
+    }
+
+    // Normalised, of a point whose length is at hand.
+    fn direction(self, span: f32) -> Self
+        ensures { result ≡ times self (reciprocal span) }
+    {
+        self * one_over(span)
+    }
+
+    ghost can_plus: { (a b : Self) → Self.can_add a b };
+
+    ghost adds: { (a b r : Self) → Self.add_gives a b r → r ≡ plus a b };
+
+    ghost can_minus: { (a b : Self) → Self.can_sub a b };
+
+    ghost subtracts: { (a b r : Self) → Self.sub_gives a b r → r ≡ minus a b };
+
+    ghost can_times: { (a : Self) (k : Float) → Self.can_mul a k };
+
+    ghost multiplies: { (a : Self) (k : Float) (r : Self) → Self.mul_gives a k r → r ≡ times a k };
+
+    ghost can_over: { (a : Self) (k : Float) → Self.can_div a k };
+
+    ghost divides: { (a : Self) (k : Float) (r : Self) → Self.div_gives a k r → r ≡ over a k };
+}
+
+impl Add<Vec2> for Vec2 {
+    type Output = Vec2;
+
+    ghost add_gives = { λ a b r. r ≡ plus2 a b };
+
+    fn add(self, b: Vec2) -> Vec2 {
+        Vec2 {
+            x: self.x + b.x,
+            y: self.y + b.y,
+        }
     }
 }
 
-pub fn sub2(a: Vec2, b: Vec2) -> Vec2
-    ensures { result ≡ minus2 a b }
-{
-    Vec2 {
-        x: a.x - b.x,
-        y: a.y - b.y,
+impl Sub<Vec2> for Vec2 {
+    type Output = Vec2;
+
+    ghost sub_gives = { λ a b r. r ≡ minus2 a b };
+
+    fn sub(self, b: Vec2) -> Vec2 {
+        Vec2 {
+            x: self.x - b.x,
+            y: self.y - b.y,
+        }
     }
 }
 
-pub fn scale2(a: Vec2, k: f32) -> Vec2
-    ensures { result ≡ times2 a k }
-{
-    Vec2 {
-        x: a.x * k,
-        y: a.y * k,
+impl Mul<f32> for Vec2 {
+    type Output = Vec2;
+
+    ghost mul_gives = { λ a k r. r ≡ times2 a k };
+
+    fn mul(self, k: f32) -> Vec2 {
+        Vec2 {
+            x: self.x * k,
+            y: self.y * k,
+        }
     }
 }
 
-pub fn add3(a: Vec3, b: Vec3) -> Vec3
-    ensures { result ≡ plus3 a b }
-{
-    Vec3 {
-        x: a.x + b.x,
-        y: a.y + b.y,
-        z: a.z + b.z,
+impl Div<f32> for Vec2 {
+    type Output = Vec2;
+
+    ghost div_gives = { λ a k r. r ≡ over2 a k };
+
+    fn div(self, k: f32) -> Vec2 {
+        Vec2 {
+            x: self.x / k,
+            y: self.y / k,
+        }
     }
 }
 
-pub fn sub3(a: Vec3, b: Vec3) -> Vec3
-    ensures { result ≡ minus3 a b }
-{
-    Vec3 {
-        x: a.x - b.x,
-        y: a.y - b.y,
-        z: a.z - b.z,
+impl Point for Vec2 {
+    ghost zero = { zero2 };
+
+    ghost plus = { plus2 };
+
+    ghost minus = { minus2 };
+
+    ghost times = { times2 };
+
+    ghost over = { over2 };
+
+    ghost square = { square2 };
+
+    ghost off = { off2 };
+
+    ghost can_plus = { λ a b. tt };
+
+    ghost adds = { λ a b r h. h };
+
+    ghost can_minus = { λ a b. tt };
+
+    ghost subtracts = { λ a b r h. h };
+
+    ghost can_times = { λ a k. tt };
+
+    ghost multiplies = { λ a k r h. h };
+
+    ghost can_over = { λ a k. tt };
+
+    ghost divides = { λ a k r h. h };
+
+    fn zero() -> Vec2 {
+        Vec2 { x: 0.0, y: 0.0 }
+    }
+
+    fn squared(self) -> f32 {
+        self.x * self.x + self.y * self.y
     }
 }
 
-pub fn scale3(a: Vec3, k: f32) -> Vec3
-    ensures { result ≡ times3 a k }
-{
-    Vec3 {
-        x: a.x * k,
-        y: a.y * k,
-        z: a.z * k,
+impl Add<Vec3> for Vec3 {
+    type Output = Vec3;
+
+    ghost add_gives = { λ a b r. r ≡ plus3 a b };
+
+    fn add(self, b: Vec3) -> Vec3 {
+        Vec3 {
+            x: self.x + b.x,
+            y: self.y + b.y,
+            z: self.z + b.z,
+        }
     }
 }
 
-pub fn squared2(a: Vec2) -> f32
-    ensures { result ≡ square2 a }
-{
-    a.x * a.x + a.y * a.y
+impl Sub<Vec3> for Vec3 {
+    type Output = Vec3;
+
+    ghost sub_gives = { λ a b r. r ≡ minus3 a b };
+
+    fn sub(self, b: Vec3) -> Vec3 {
+        Vec3 {
+            x: self.x - b.x,
+            y: self.y - b.y,
+            z: self.z - b.z,
+        }
+    }
 }
 
-pub fn squared3(a: Vec3) -> f32
-    ensures { result ≡ square3 a }
-{
-    a.x * a.x + a.y * a.y + a.z * a.z
+impl Mul<f32> for Vec3 {
+    type Output = Vec3;
+
+    ghost mul_gives = { λ a k r. r ≡ times3 a k };
+
+    fn mul(self, k: f32) -> Vec3 {
+        Vec3 {
+            x: self.x * k,
+            y: self.y * k,
+            z: self.z * k,
+        }
+    }
 }
 
-pub fn len2(a: Vec2) -> f32
-    ensures { result ≡ length2 a }
-{
-    arith::root(squared2(a))
+impl Div<f32> for Vec3 {
+    type Output = Vec3;
+
+    ghost div_gives = { λ a k r. r ≡ over3 a k };
+
+    fn div(self, k: f32) -> Vec3 {
+        Vec3 {
+            x: self.x / k,
+            y: self.y / k,
+            z: self.z / k,
+        }
+    }
 }
 
-pub fn len3(a: Vec3) -> f32
-    ensures { result ≡ length3 a }
-{
-    arith::root(squared3(a))
+impl Point for Vec3 {
+    ghost zero = { zero3 };
+
+    ghost plus = { plus3 };
+
+    ghost minus = { minus3 };
+
+    ghost times = { times3 };
+
+    ghost over = { over3 };
+
+    ghost square = { square3 };
+
+    ghost off = { off3 };
+
+    ghost can_plus = { λ a b. tt };
+
+    ghost adds = { λ a b r h. h };
+
+    ghost can_minus = { λ a b. tt };
+
+    ghost subtracts = { λ a b r h. h };
+
+    ghost can_times = { λ a k. tt };
+
+    ghost multiplies = { λ a k r h. h };
+
+    ghost can_over = { λ a k. tt };
+
+    ghost divides = { λ a k r h. h };
+
+    fn zero() -> Vec3 {
+        Vec3 {
+            x: 0.0,
+            y: 0.0,
+            z: 0.0,
+        }
+    }
+
+    fn squared(self) -> f32 {
+        self.x * self.x + self.y * self.y + self.z * self.z
+    }
 }
 
 // One over a length: what every normalising multiplies by.
@@ -109,10 +281,7 @@ pub fn one_over(span: f32) -> f32
 pub(crate) fn is_usable(k: f32) -> bool
     ensures { result ≡ serves k }
 {
-    if 0.0 < k {
-        return k < f32::from_bits(0x7f80_0000);
-    }
-    false
+    0.0 < k && k < f32::INFINITY
 }
 
 // A quicker test that is enough: what is above 0 and at most 2 ^ 32 gives a direction. Only points
@@ -120,84 +289,12 @@ pub(crate) fn is_usable(k: f32) -> bool
 pub(crate) fn is_ordinary(k: f32) -> bool
     ensures { result ≡ ordinary k }
 {
-    if 0.0 < k {
-        return k <= f32::from_bits(0x4f80_0000);
-    }
-    false
+    0.0 < k && k <= 4294967296.0
 }
 
-pub fn normalize2(a: Vec2) -> Vec2
-    ensures { result ≡ unit2 a }
+// The centroid: the sum from +0 in order, over the count.
+pub fn centroid<P: Point, const N: usize>(ps: [P; N]) -> P
+    ensures { result ≡ middle P.plus P.zero P.over ps }
 {
-    scale2(a, one_over(len2(a)))
-}
-
-// The same of a point whose length is at hand.
-pub fn normalize3(a: Vec3, span: f32) -> Vec3
-    ensures { result ≡ unit3 a span }
-{
-    scale3(a, one_over(span))
-}
-
-// The centroids: the sum from +0 in order, over the count.
-pub fn centroid2_four(ps: [Vec2; 4]) -> Vec2
-    ensures { result ≡ middle2 ps }
-{
-    let mut t = Vec2 { x: 0.0, y: 0.0 };
-    for i in 0usize..4 {
-        t = add2(t, ps[i]);
-    }
-    Vec2 {
-        x: t.x / 4.0,
-        y: t.y / 4.0,
-    }
-}
-
-pub fn centroid2_six(ps: [Vec2; 6]) -> Vec2
-    ensures { result ≡ middle2 ps }
-{
-    let mut t = Vec2 { x: 0.0, y: 0.0 };
-    for i in 0usize..6 {
-        t = add2(t, ps[i]);
-    }
-    Vec2 {
-        x: t.x / 6.0,
-        y: t.y / 6.0,
-    }
-}
-
-pub fn centroid3_four(ps: [Vec3; 4]) -> Vec3
-    ensures { result ≡ middle3 ps }
-{
-    let mut t = Vec3 {
-        x: 0.0,
-        y: 0.0,
-        z: 0.0,
-    };
-    for i in 0usize..4 {
-        t = add3(t, ps[i]);
-    }
-    Vec3 {
-        x: t.x / 4.0,
-        y: t.y / 4.0,
-        z: t.z / 4.0,
-    }
-}
-
-pub fn centroid3_six(ps: [Vec3; 6]) -> Vec3
-    ensures { result ≡ middle3 ps }
-{
-    let mut t = Vec3 {
-        x: 0.0,
-        y: 0.0,
-        z: 0.0,
-    };
-    for i in 0usize..6 {
-        t = add3(t, ps[i]);
-    }
-    Vec3 {
-        x: t.x / 6.0,
-        y: t.y / 6.0,
-        z: t.z / 6.0,
-    }
+    ps.iter().fold(P::zero(), |sum, p| sum + *p) / nearest_usize_to_f32(N)
 }

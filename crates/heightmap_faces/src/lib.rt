@@ -129,7 +129,7 @@ pub fn cap_offset(at: Vec2, height: f32) -> Vec3
         y: height,
         z: 0.0 * height,
     };
-    face::vec::add3(face::face::raise(at, 0.0), up)
+    face::face::raise(at, 0.0) + up
 }
 
 // Where a cap stands: as a wall does, but moved first to its cell.

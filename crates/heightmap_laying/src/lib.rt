@@ -138,7 +138,7 @@ fn put_cap_if(
         Choice::Absent => at,
         Choice::With(_) => {
             put_cap(top, t, at, vertices, normals, uvs, indices);
-            add(at, face::triangle::hexagon_counts(inset))
+            add(at, face::triangle::counts_of::<face::face::Hexagon>(inset))
         }
     }
 }
@@ -169,7 +169,7 @@ fn put_wall(
         let right = heightmap::grid::right_at(cells, k, d);
         let foot = heightmap::grid::foot_of(w);
         put_side(v, t, left, right, foot, at, vertices, normals, uvs, indices);
-        return add(at, face::triangle::quad_counts(inset));
+        return add(at, face::triangle::counts_of::<face::face::Quad>(inset));
     }
     at
 }

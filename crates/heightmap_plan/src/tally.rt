@@ -115,7 +115,7 @@ pub(crate) fn cap_tally(
             let inset = o.inset;
             Tally {
                 faces: 1,
-                counts: face::triangle::hexagon_counts(inset),
+                counts: face::triangle::counts_of::<face::face::Hexagon>(inset),
             }
         }
     }
@@ -144,7 +144,7 @@ pub(crate) fn side_tally(
         let inset = o.inset;
         return Tally {
             faces: 1,
-            counts: face::triangle::quad_counts(inset),
+            counts: face::triangle::counts_of::<face::face::Quad>(inset),
         };
     }
     nothing()
@@ -419,8 +419,8 @@ fn own_tally(
     Tally {
         faces: m + walls,
         counts: add(
-            times(m, face::triangle::hexagon_counts(cap)),
-            times(walls, face::triangle::quad_counts(wall)),
+            times(m, face::triangle::counts_of::<face::face::Hexagon>(cap)),
+            times(walls, face::triangle::counts_of::<face::face::Quad>(wall)),
         ),
     }
 }

@@ -46,8 +46,8 @@ fn size_of(job: HeightMap, name: Name, customs: &[u8], numbers: &[f32], marks: &
     let o = heightmap::options::option_of(job, name, customs, numbers, marks);
     let inset = o.inset;
     match name {
-        Name::Cap(_) => face::triangle::hexagon_counts(inset),
-        Name::Side(_, _) => face::triangle::quad_counts(inset),
+        Name::Cap(_) => face::triangle::counts_of::<face::face::Hexagon>(inset),
+        Name::Side(_, _) => face::triangle::counts_of::<face::face::Quad>(inset),
     }
 }
 

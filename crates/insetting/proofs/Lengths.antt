@@ -14,7 +14,7 @@ use Rattle.face.specs.declared.vec.Vec3.{Vec3}
 use Rattle.face.specs.Vec.{plus, diff, times, minus3, off2, off3, length3}
 use Rattle.face.specs.Lists.{each}
 use Rattle.face.specs.Inset.{edge_point, edge_uv, previous_of, next_of, edge, point_at, uv_at, edged3, edged2}
-use Rattle.insetting.specs.Edges.{edge_at, edges, point_by_at, uv_by_at, points_by, uvs_by}
+use Rattle.insetting.specs.Edges.{edge_at, edges, moved_at, points_by, uvs_by}
 use Rattle.face.proofs.Filling.{length-each, each_at, each_same}
 
 -- ---- a value without its sign, which its square does not see
@@ -119,18 +119,18 @@ module _ (k : Float) (ps : List Vec3) (v : ℕ) (h : v < length ps) where
       ∙ ap (edge ps (previous_of m v)) (next-of-previous m v h)
       ∙ length-turned (get_or ps v off3) (get_or ps (previous_of m v) off3)
 
-  point-by : point_at k ps m v ≡ point_by_at k (edges ps) ps m v
+  point-by : point_at k ps m v ≡ moved_at (edge_point k) off3 (edges ps) ps m v
   point-by =
       sym (ap₂ (λ (lp ln : Float). edge_point k lp ln (get_or ps v off3) (get_or ps (previous_of m v) off3) (get_or ps (next_of m v) off3)) to-previous to-next)
 
-  uv-by : (ts : List Vec2) → uv_at k ps ts m v ≡ uv_by_at k (edges ps) ts m v
+  uv-by : (ts : List Vec2) → uv_at k ps ts m v ≡ moved_at (edge_uv k) off2 (edges ps) ts m v
   uv-by ts = sym (ap₂ (λ (lp ln : Float). edge_uv k lp ln (get_or ts v off2) (get_or ts (previous_of m v) off2) (get_or ts (next_of m v) off2)) to-previous to-next)
 
 as_many : (ps : List Vec3) → length ps ≡ length (edges ps)
 as_many ps = sym (length-each (edge_at ps (length ps)) (length ps))
 
 pub edged3-by : (k : Float) (ps : List Vec3) → edged3 k ps ≡ points_by k (edges ps) ps
-edged3-by k ps = each_same _ _ (length ps) (point-by k ps) ∙ ap (λ (n : ℕ). each (point_by_at k (edges ps) ps n) n) (as_many ps)
+edged3-by k ps = each_same _ _ (length ps) (point-by k ps) ∙ ap (λ (n : ℕ). each (moved_at (edge_point k) off3 (edges ps) ps n) n) (as_many ps)
 
 pub edged2-by : (k : Float) (ps : List Vec3) (ts : List Vec2) → edged2 k ps ts ≡ uvs_by k (edges ps) ts
-edged2-by k ps ts = each_same _ _ (length ps) (λ v h. uv-by k ps v h ts) ∙ ap (λ (n : ℕ). each (uv_by_at k (edges ps) ts n) n) (as_many ps)
+edged2-by k ps ts = each_same _ _ (length ps) (λ v h. uv-by k ps v h ts) ∙ ap (λ (n : ℕ). each (moved_at (edge_uv k) off2 (edges ps) ts n) n) (as_many ps)

@@ -149,7 +149,7 @@ pub fn offset(
         uvs.len(),
         indices.len(),
     )?;
-    move_each(vertices, done.vertices.0, |p| face::vec::add3(p, by));
+    move_each(vertices, done.vertices.0, |p: Vec3| p + by);
     Ok(done)
 }
 
@@ -229,7 +229,7 @@ pub fn centroid(
     let m = done.vertices.0;
     Ok(Middle {
         counts: done,
-        centroid: mean3(sum(vertices, m, ORIGIN, face::vec::add3), m),
+        centroid: mean3(sum(vertices, m, ORIGIN, |a: Vec3, b| a + b), m),
     })
 }
 
@@ -254,6 +254,6 @@ pub fn uv_centroid(
     let m = done.vertices.0;
     Ok(Middle {
         counts: done,
-        centroid: mean2(sum(uvs, m, CORNER, face::vec::add2), m),
+        centroid: mean2(sum(uvs, m, CORNER, |a: Vec2, b| a + b), m),
     })
 }

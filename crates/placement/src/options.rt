@@ -88,7 +88,7 @@ impl Default for FaceOptions {
 
     fn default() -> Self {
         FaceOptions {
-            uv: face::uv_mapping::default_options(),
+            uv: UvOptions::default(),
             inset: Inset::None,
         }
     }

@@ -98,7 +98,7 @@ fn move_by(s: Choice3, p: Vec3) -> Vec3
 {
     match s {
         Choice3::Absent => p,
-        Choice3::With(by) => face::vec::add3(p, by),
+        Choice3::With(by) => p + by,
     }
 }
 

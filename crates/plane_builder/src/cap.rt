@@ -56,7 +56,7 @@ fn alter(o: UvOptions, h: InsetHexagon) -> InsetHexagon
     let positions = h.positions;
     let normal = h.normal;
     let plain = h.uvs;
-    let uvs = face::uv_mapping::alter_twelve(o, plain);
+    let uvs = face::uv_mapping::alter(o, plain);
     InsetHexagon {
         positions: positions,
         normal: normal,
@@ -72,7 +72,7 @@ fn alter_first(o: UvOptions, how: Inset, h: Hexagon) -> InsetHexagon
     let positions = h.positions;
     let normal = h.normal;
     let plain = h.uvs;
-    let uvs = face::uv_mapping::alter_six(o, plain);
+    let uvs = face::uv_mapping::alter(o, plain);
     let altered = Hexagon {
         positions: positions,
         normal: normal,

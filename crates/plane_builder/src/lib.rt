@@ -66,7 +66,7 @@ pub fn plan(job: Plane, corners: &[f32], numbers: &[f32], marks: &[u8]) -> Answe
         if is_in_range(job, corners, numbers) {
             let o = placement::options::option_at(numbers, marks, job.option);
             let inset = o.inset;
-            return answer::answer::limit(face::triangle::hexagon_counts(inset));
+            return answer::answer::limit(face::triangle::counts_of::<face::face::Hexagon>(inset));
         }
         return Err(Refusal::Range);
     }

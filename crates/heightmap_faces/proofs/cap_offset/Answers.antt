@@ -2,4 +2,4 @@
 use Rattle.heightmap_faces.proofs.cap_offset.Goals as goal
 
 pub returns : goal.returns
-returns c = rw (c.add3.ensures, c.raise.ensures)
+returns c = rw (c.add.ensures, c.raise.ensures)

@@ -10,7 +10,7 @@ use Rattle.heightmap_laying.proofs.put_cap_if.Goals as goal
 pub add-requires : goal.add-requires
 add-requires c = let a = c.args in
     let m = hexagon-small a.top.inset in
-    rw c.hexagon_counts.ensures (omega (arith, m.0, c.requires.0), omega (arith, m.1, c.requires.1))
+    rw c.counts_of.ensures (omega (arith, m.0, c.requires.0), omega (arith, m.1, c.requires.1))
 
 pub returns-in-Absent : goal.returns-in-Absent
 returns-in-Absent c = let a = c.args in
@@ -18,5 +18,5 @@ returns-in-Absent c = let a = c.args in
 
 pub returns-in-With : goal.returns-in-With
 returns-in-With c = let a = c.args in
-    let s = one-step (top_faces a.caps a.t a.top) (top_mesh a.t a.top) a.at _ _ (four a.vertices.now a.normals.now a.uvs.now a.indices.now) _ (ap (λ (x : Choice). top_faces x a.t a.top) c.in-With.is) c.add.ensures (c.hexagon_counts.ensures ∙ top-size a.t a.top) c.put_cap.ensures in
-    let m = hexagon-small a.top.inset in record { place = s.0; small = rw (c.add.ensures, c.hexagon_counts.ensures) (omega (arith, m.0), omega (arith, m.1)); buffers = s.1 }
+    let s = one-step (top_faces a.caps a.t a.top) (top_mesh a.t a.top) a.at _ _ (four a.vertices.now a.normals.now a.uvs.now a.indices.now) _ (ap (λ (x : Choice). top_faces x a.t a.top) c.in-With.is) c.add.ensures (c.counts_of.ensures ∙ top-size a.t a.top) c.put_cap.ensures in
+    let m = hexagon-small a.top.inset in record { place = s.0; small = rw (c.add.ensures, c.counts_of.ensures) (omega (arith, m.0), omega (arith, m.1)); buffers = s.1 }

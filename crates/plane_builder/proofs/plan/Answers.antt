@@ -8,7 +8,7 @@ use Rattle.plane_builder.proofs.plan.Goals as goal
 pub returns-then-is_in_range : goal.returns-then-is_in_range
 returns-then-is_in_range c = let a = c.args in
     let ls = lists a.corners.now a.numbers.now a.marks.now in
-    (rw (c.hexagon_counts.ensures, c.option_at-o.ensures) at c.limit.ensures)
+    (rw (c.counts_of.ensures, c.option_at-o.ensures) at c.limit.ensures)
     ∙ plane-counts a.job ls
     ∙ range-decides a.job ls (sym c.is_shape.ensures ∙ c.if-is_shape.true) true (sym c.is_in_range.ensures ∙ c.if-is_in_range.true)
 

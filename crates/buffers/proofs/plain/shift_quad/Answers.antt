@@ -1,5 +1,10 @@
--- `shift_quad`: its parts. Assumes nothing.
+-- `shift_quad`: the six of its four points and uvs. Assumes nothing.
+use borrow.Author.Rules.{rules}
+use Rattle.face.specs.Vec.{off2, off3}
+use Rattle.placement.specs.Speed.{shift_of}
+use Rattle.buffers.proofs.PlainFaces.{six-of-four, six-again}
 use Rattle.buffers.proofs.plain.shift_quad.Goals as goal
 
 pub returns : goal.returns
-returns c = rw (c.four_uvs-uvs.ensures, c.shift_four-positions.ensures)
+returns c = let q = c.args.q in
+    rw (c.six.ensures, c.six-2.ensures, c.shift_all.ensures, six-of-four (shift_of c.args.t) q.positions off3 off3 (search rules), six-again q.uvs off2 (search rules))

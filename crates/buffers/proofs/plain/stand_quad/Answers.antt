@@ -1,11 +1,10 @@
--- `stand_quad`: what is only moved stands so. Assumes nothing.
-use mathlib.Core.Path.{sym, ◌∙◌}
-use Rattle.buffers.proofs.PlainFaces.{quad-shifted}
+-- `stand_quad`: the six of its four points and uvs. Assumes nothing.
+use borrow.Author.Rules.{rules}
+use Rattle.face.specs.Vec.{off2, off3}
+use Rattle.placement.specs.Placing.{stood}
+use Rattle.buffers.proofs.PlainFaces.{six-of-four, six-again}
 use Rattle.buffers.proofs.plain.stand_quad.Goals as goal
 
-pub returns-then-is_shift : goal.returns-then-is_shift
-returns-then-is_shift c = let a = c.args in
-    c.shift_quad.ensures ∙ quad-shifted a.t (sym c.is_shift.ensures ∙ c.if-is_shift.true) a.q
-
 pub returns : goal.returns
-returns c = rw (c.four_uvs-uvs.ensures, c.stand_four-positions.ensures, c.stand_normal-normal.ensures)
+returns c = let q = c.args.q in
+    rw (c.six.ensures, c.six-2.ensures, c.stand_normal.ensures, c.stand_all.ensures, six-of-four (stood c.args.t) q.positions off3 off3 (search rules), six-again q.uvs off2 (search rules))

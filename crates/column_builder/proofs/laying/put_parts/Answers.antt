@@ -24,7 +24,7 @@ add-place-requires c = let a = c.args in
     let i = c.loop-p.invariant in
     let m = each-most a.w.inset (part_mesh a.w) (λ k. wall-size a.w.stand a.w.inset (part_at a.w k)) c.loop-p.p (omega (arith, i.0, c.requires.0)) in
     let q = quad-small a.w.inset in
-    rw (i.1.0, c.quad_counts-size.ensures) (omega (arith, m.0, q.0, c.requires.1), omega (arith, m.1, q.1, c.requires.2))
+    rw (i.1.0, c.counts_of-size.ensures) (omega (arith, m.0, q.0, c.requires.1), omega (arith, m.1, q.1, c.requires.2))
 
 pub overflow_step-p : goal.overflow_step-p
 overflow_step-p c = omega (arith, c.loop-p-test.true, c.requires.0)
@@ -37,7 +37,7 @@ loop-p-preserved c = let a = c.args in
       search rules,
       rw (add-one p)
           (so-far-one (each (part_mesh a.w) p) (part_mesh a.w p) a.at (four a.vertices.now a.normals.now a.uvs.now a.indices.now) place c.add-place.result C _ c.loop-p.invariant.1
-          (c.add-place.ensures ∙ ap (also place) (c.quad_counts-size.ensures ∙ sym (wall-size a.w.stand a.w.inset (part_at a.w p))))
+          (c.add-place.ensures ∙ ap (also place) (c.counts_of-size.ensures ∙ sym (wall-size a.w.stand a.w.inset (part_at a.w p))))
           c.put_part.ensures),
     )
 

@@ -1,7 +1,6 @@
 -- `connection`: of two triangles for each v, the one that t names. Assumes nothing.
 use mathlib.Core.Path.{◌≡◌, sym, ap, ◌∙◌}
-use Prim.Native.Nat.{ℕ, ◌+◌, ◌*◌, ◌/◌, ◌%◌, ◌<◌}
-use native.Mathlib.Nat.{mod-lt}
+use Prim.Native.Nat.{ℕ, ◌+◌, ◌*◌, ◌/◌, ◌%◌}
 use native.Mathlib.Omega.{arith}
 use lib.ListN.{get_or}
 use Rattle.face.specs.Lists.{chain}
@@ -26,18 +25,8 @@ odd-at c =
     ap (λ (x : ℕ). get_or (chain (connecting a.back a.m) a.m) x no_triangle) e
     ∙ second_at (λ v. reversed_if a.back (first_of a.m v)) (λ v. reversed_if a.back (second_of a.m v)) no_triangle a.m (a.t / 2) (omega arith)
 
--- the next of v is one of the m
-next-lt : (c : Start) → (c.args.t / 2 + 1) % c.args.m < c.args.m
-next-lt c = mod-lt (c.args.t / 2 + 1) {m = c.args.m} c.requires.0
-
-pub overflow_add-n-then-t-eq0 : goal.overflow_add-n-then-t-eq0
-overflow_add-n-then-t-eq0 c = omega (arith, next-lt (goal.at.overflow_add-n-then-t-eq0 c).Start)
-
 pub returns-then-t-eq0 : goal.returns-then-t-eq0
 returns-then-t-eq0 c = rw (c.reverse_if.ensures, c.numbered.ensures) (sym (even-at (goal.at.returns-then-t-eq0 c).Then-t-eq0))
 
-pub overflow_add-n-2 : goal.overflow_add-n-2
-overflow_add-n-2 c = omega (arith, next-lt (goal.at.overflow_add-n-2 c).Start)
-
-pub returns : goal.returns
-returns c = rw (c.reverse_if-2.ensures, c.numbered-2.ensures) (sym (odd-at (goal.at.returns c).Else-t-eq0))
+pub returns-else-t-eq0 : goal.returns-else-t-eq0
+returns-else-t-eq0 c = rw (c.reverse_if-else-t-eq0.ensures, c.numbered-else-t-eq0.ensures) (sym (odd-at (goal.at.returns-else-t-eq0 c).Else-t-eq0))

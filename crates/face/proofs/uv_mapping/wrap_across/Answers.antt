@@ -6,7 +6,4 @@ use Rattle.face.proofs.uv_mapping.wrap_across.Goals as goal
 
 pub returns-then-is_ordinary : goal.returns-then-is_ordinary
 returns-then-is_ordinary c = let w = both-wrapped c.args.p c.args.q c.one_of_both-k.result c.one_of_both-k.ensures (sym c.is_ordinary.ensures ∙ c.if-is_ordinary.true) in
-    (c.halve.ensures ∙ ap halved c.scale2.ensures ∙ w.0, c.halve-then-is_ordinary.ensures ∙ ap halved c.scale2-then-is_ordinary.ensures ∙ w.1)
-
-pub returns : goal.returns
-returns c = (c.wrap_uv.ensures, c.wrap_uv-2.ensures)
+    (c.halve.ensures ∙ ap halved c.mul.ensures ∙ w.0, c.halve-then-is_ordinary.ensures ∙ ap halved c.mul-then-is_ordinary.ensures ∙ w.1)

@@ -5,7 +5,4 @@ use Rattle.face.proofs.Wraps.{wrapped-by}
 use Rattle.face.proofs.uv_mapping.wrap_by.Goals as goal
 
 pub returns-then-is_ordinary : goal.returns-then-is_ordinary
-returns-then-is_ordinary c = c.halve.ensures ∙ ap halved c.scale2.ensures ∙ wrapped-by c.args.p c.args.k c.requires (sym c.is_ordinary.ensures ∙ c.if-is_ordinary.true)
-
-pub returns : goal.returns
-returns c = rw (c.halve-2.ensures, c.unit_or.ensures, c.requires)
+returns-then-is_ordinary c = c.halve.ensures ∙ ap halved c.mul.ensures ∙ wrapped-by c.args.p c.args.k c.requires (sym c.is_ordinary.ensures ∙ c.if-is_ordinary.true)

@@ -10,4 +10,4 @@ pub returns-in-Absent : goal.returns-in-Absent
 returns-in-Absent c = rw c.in-Absent.is c.nothing.ensures
 
 pub returns-in-With : goal.returns-in-With
-returns-in-With c = let a = c.args in rw (c.hexagon_counts.ensures, c.option_of-o.ensures) (sym (cap-on a.job (lists (grid [] [] []) a.customs.now [] a.numbers.now a.marks.now) a.k _ c.in-With.is))
+returns-in-With c = let a = c.args in rw (c.counts_of.ensures, c.option_of-o.ensures) (sym (cap-on a.job (lists (grid [] [] []) a.customs.now [] a.numbers.now a.marks.now) a.k _ c.in-With.is))

@@ -2,4 +2,4 @@
 use Rattle.plane_builder.proofs.cap.alter.Goals as goal
 
 pub returns : goal.returns
-returns c = rw c.alter_twelve-uvs.ensures
+returns c = rw c.alter-uvs.ensures

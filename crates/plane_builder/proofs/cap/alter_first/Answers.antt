@@ -2,4 +2,4 @@
 use Rattle.plane_builder.proofs.cap.alter_first.Goals as goal
 
 pub returns : goal.returns
-returns c = rw (c.inset_hexagon.ensures, c.alter_six-uvs.ensures)
+returns c = rw (c.inset_hexagon.ensures, c.alter-uvs.ensures)

@@ -1,9 +1,0 @@
--- `put_quad_triangles`: a turn lays one triangle, whose vertices are the face's own. Assumes nothing.
-use lib.ListN.{get_or}
-use Rattle.face.specs.Triangles.{inset_triangles, quad_triangles, no_triangle}
-use Rattle.buffers.specs.Laying.{corners}
-use Rattle.buffers.proofs.Laid.{Laying}
-use Rattle.buffers.proofs.laying.put_quad_triangles.Given as goal
-
-abbrev pub invariant-loop-k : goal.invariant-loop-k
-invariant-loop-k l = Laying (λ j. corners l.b.0 (get_or (inset_triangles l.how 4 quad_triangles) j no_triangle)) l.m l.initial.buffer l.at.0 l.k l.buffer
