@@ -7,6 +7,7 @@ use Rattle.face.specs.declared.face.Quad.{Quad}
 use Rattle.face.specs.Vec.{v2, f0, f1, diff, over}
 use Rattle.face.specs.Face.{quad_of}
 use Rattle.face.specs.Texture.{altered}
+use Rattle.placement.specs.declared.placement.Choice3.TheVariants as choice
 use Rattle.placement.specs.declared.options.FaceOptions.{FaceOptions}
 use Rattle.placement.specs.declared.placement.Stand.{Stand}
 use Rattle.plane_builder.specs.Cap.{cap_hexagon}
@@ -50,7 +51,7 @@ top_of l o = record { inset = o.inset; whole = cap_hexagon l o }
 abbrev pub lifted : Stand → Vec3 → Stand
 lifted t v =
     record {
-      first = record { on = true; by = v };
+      first = choice.With v;
       half = t.half;
       scale = t.scale;
       turn = t.turn;

@@ -15,7 +15,7 @@ use face::uv_mapping::UvOptions;
 use face::vec::{Vec2, Vec3};
 use heightmap::Span;
 use placement::options::FaceOptions;
-use placement::placement::{Stand, Supplied3};
+use placement::placement::{Choice3, Stand};
 
 // What the walls of an option share: the u of their left and of their right end hang on the option alone, their v on the
 // range and a height.
@@ -136,16 +136,8 @@ pub fn cap_offset(at: Vec2, height: f32) -> Vec3
 pub fn lift(t: Stand, by: Vec3) -> Stand
     ensures { result ≡ lifted t by }
 {
-    let scale = t.scale;
-    let turn = t.turn;
-    let offset = t.offset;
-    let origin = t.origin;
     Stand {
-        first: Supplied3 { on: true, by: by },
-        half: t.half,
-        scale: scale,
-        turn: turn,
-        offset: offset,
-        origin: origin,
+        first: Choice3::With(by),
+        ..t
     }
 }
