@@ -10,7 +10,7 @@ use Rattle.answer.specs.Answers.{Answer}
 use Rattle.std.specs.Prelude.{Ok, Err}
 use Rattle.answer.specs.declared.answer.Refusal.{Refusal}
 use Rattle.answer.specs.declared.answer.Refusal.TheVariants.{Shape, Range, Empty}
-use Rattle.answer.specs.Answers.{Roomy, limited}
+use Rattle.answer.specs.Answers.{Roomy, limited, after}
 use Rattle.answer.proofs.Laws.{given-done, done-limited, not_done, same-counts}
 use Rattle.buffers.specs.Laying.{Buffers, laid}
 use Rattle.buffers.proofs.Laid.{Laying, laying-more, laid-outside, chain_length}
@@ -73,6 +73,10 @@ module _ (c : Counts) (B : Buffers) where
       let h = given-done (holds_counts c _ _ _ _) Shape _ e in
       let l = done-limited c d (given-done good Range (limited c) h.1).1 in
       record { same = l.1; limit = rw l.1 at l.0; room = rw l.1 at (holds-room c _ _ _ _ h.0) }
+
+  -- buffers for which new is what is to be written, where the answer is done
+  pub moved : (new : Counts → Buffers) (good : Bool) (d : Counts) → answer_of c good B ≡ Ok d → new d ≡ after (answer_of c good B) B (new c)
+  moved new good d e = rw e (ap new (sym (stored-done good d e).same))
 
   -- ---- a done centroid is the middle, and the counts are those given
   module _ {A : Type 0} (plus : A → A → A) (none : A) (over : A → Float → A) (g : ℕ → A) where
