@@ -2,10 +2,9 @@
 // is the z of space.
 ghost use Rattle.std.specs.Prelude.{◌≡◌, Float};
 ghost use Rattle.arith.specs.Root.{root};
-ghost use Rattle.face.specs.Vec.{plus2, minus2, times2, over2, zero2, off2, square2, plus3, minus3, times3, over3, zero3, off3, square3, reciprocal, serves, middle};
+ghost use Rattle.face.specs.Vec.{plus2, minus2, times2, over2, zero2, off2, square2, plus3, minus3, times3, over3, zero3, off3, square3, reciprocal, serves};
 ghost use Rattle.face.specs.Speed.{ordinary};
 
-use std::num::nearest_usize_to_f32;
 use std::ops::{Add, Div, Mul, Sub};
 
 #[derive(Clone, Copy)]
@@ -290,11 +289,4 @@ pub(crate) fn is_ordinary(k: f32) -> bool
     ensures { result ≡ ordinary k }
 {
     0.0 < k && k <= 4294967296.0
-}
-
-// The centroid: the sum from +0 in order, over the count.
-pub fn centroid<P: Point, const N: usize>(ps: [P; N]) -> P
-    ensures { result ≡ middle P.plus P.zero P.over ps }
-{
-    ps.iter().fold(P::zero(), |sum, p| sum + *p) / nearest_usize_to_f32(N)
 }

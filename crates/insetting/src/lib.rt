@@ -8,7 +8,15 @@ ghost use Rattle.insetting.specs.Edges.{toward, edge_step, along2, edges, moved,
 
 use face::face::{Hexagon, Quad};
 use face::inset::{Inset, InsetHexagon, InsetQuad};
-use face::vec::{Point, Vec2, Vec3, centroid};
+use face::vec::{Point, Vec2, Vec3};
+use std::num::nearest_usize_to_f32;
+
+// The sum from +0 in order, over the count.
+fn centroid<P: Point, const N: usize>(ps: [P; N]) -> P
+    ensures { result ≡ middle P.plus P.zero P.over ps }
+{
+    ps.iter().fold(P::zero(), |sum, p| sum + *p) / nearest_usize_to_f32(N)
+}
 
 fn toward<P: Point>(c: P, k: f32, p: P) -> P
     ensures { result ≡ toward P.plus P.minus P.times c k p }
