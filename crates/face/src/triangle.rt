@@ -133,7 +133,8 @@ fn ring_triangle<S: Shape>(k: f32, keep: bool, t: usize) -> Triangle
     }
 }
 
-// The t-th triangle of a face with its inset, and three zeros where there is none.
+// The t-th triangle of a face with its inset, and three zeros where there is none: no `Option`, since the promise
+// stays what it was.
 pub fn triangle_of<S: Shape>(how: Inset, t: usize) -> Triangle
     ensures { result ≡ get_or (inset_triangles how S.POINTS S.triangles) t no_triangle }
 {

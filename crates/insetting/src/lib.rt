@@ -120,6 +120,7 @@ fn join<P: Point, const N: usize, const M: usize>(a: [P; N], b: [P; N]) -> [P; M
     out
 }
 
+// Quads and hexagons are structs of their own by the project's rule, so two functions make each.
 fn quad_around(q: Quad, inner: [Vec3; 4], texture: [Vec2; 4]) -> InsetQuad
     ensures { result ≡ quad_around q inner texture }
 {

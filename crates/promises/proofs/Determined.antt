@@ -12,9 +12,15 @@ use prog.Routine.{Routine}
 use types.Logic.{Logic}
 use contract.Lifetimes.{Lfts}
 use contract.Monad.{Fun}
+use denote.Param.{number}
+use denote.Param.Laws.{Laws}
+use denote.RattleType.{RattleType}
 use denote.Triple.Entry.{Args}
 use denote.Triple.Clauses.{Lasts}
 use denote.MutBor.{MutBor}
+use mir.Syntax.{Dict, w64}
+use mir.Val.{Fits}
+use Rattle.face.specs.declared.triangle.Shape.{Ghosts as Shape}
 use Rattle.boundary.specs.ToC.{answer_to_c}
 use Rattle.cells.specs.declared.Cell.{Cell}
 use Rattle.cells.specs.Cells.{load_answer, numbers_loaded, neighbours_loaded}
@@ -83,32 +89,19 @@ face-face-raise-six κs a x y v w p q = (determined p q, refl)
 pub face-face-new-hexagon : Fixes face.specs.contracts.face.new_hexagon.ended face.proofs.face.new_hexagon.Reads.Learnt
 face-face-new-hexagon κs a x y v w p q = (determined p q, refl)
 
-pub face-triangle-quad-triangle : Fixes face.specs.contracts.triangle.quad_triangle.ended face.proofs.triangle.quad_triangle.Reads.Learnt
-face-triangle-quad-triangle κs a x y v w p q = (determined p q, refl)
+pub face-triangle-triangle-of : (S : RattleType) (l : Laws S) (s : Shape S.Denot) (d : Dict)
+    → Fixes (face.specs.contracts.triangle.triangle_of.ended S s d) (face.proofs.triangle.triangle_of.Reads.Learnt S l s d)
+face-triangle-triangle-of S l s d κs a x y v w p q = (determined p q, refl)
 
-pub face-triangle-hexagon-triangle : Fixes face.specs.contracts.triangle.hexagon_triangle.ended face.proofs.triangle.hexagon_triangle.Reads.Learnt
-face-triangle-hexagon-triangle κs a x y v w p q = (determined p q, refl)
-
-pub face-triangle-quad-counts : Fixes face.specs.contracts.triangle.quad_counts.ended face.proofs.triangle.quad_counts.Reads.Learnt
-face-triangle-quad-counts κs a x y v w p q = (determined p q, refl)
-
-pub face-triangle-hexagon-counts : Fixes face.specs.contracts.triangle.hexagon_counts.ended face.proofs.triangle.hexagon_counts.Reads.Learnt
-face-triangle-hexagon-counts κs a x y v w p q = (determined p q, refl)
-
-pub face-uv-mapping-default-options : Fixes face.specs.contracts.uv_mapping.default_options.ended face.proofs.uv_mapping.default_options.Reads.Learnt
-face-uv-mapping-default-options κs a x y v w p q = (determined p q, refl)
+pub face-triangle-counts-of : (S : RattleType) (l : Laws S) (s : Shape S.Denot) (d : Dict)
+    → Fixes (face.specs.contracts.triangle.counts_of.ended S s d) (face.proofs.triangle.counts_of.Reads.Learnt S l s d)
+face-triangle-counts-of S l s d κs a x y v w p q = (determined p q, refl)
 
 pub face-uv-mapping-alter-uv : Fixes face.specs.contracts.uv_mapping.alter_uv.ended face.proofs.uv_mapping.alter_uv.Reads.Learnt
 face-uv-mapping-alter-uv κs a x y v w p q = (determined p q, refl)
 
-pub face-uv-mapping-alter-four : Fixes face.specs.contracts.uv_mapping.alter_four.ended face.proofs.uv_mapping.alter_four.Reads.Learnt
-face-uv-mapping-alter-four κs a x y v w p q = (determined p q, refl)
-
-pub face-uv-mapping-alter-six : Fixes face.specs.contracts.uv_mapping.alter_six.ended face.proofs.uv_mapping.alter_six.Reads.Learnt
-face-uv-mapping-alter-six κs a x y v w p q = (determined p q, refl)
-
-pub face-uv-mapping-alter-twelve : Fixes face.specs.contracts.uv_mapping.alter_twelve.ended face.proofs.uv_mapping.alter_twelve.Reads.Learnt
-face-uv-mapping-alter-twelve κs a x y v w p q = (determined p q, refl)
+pub face-uv-mapping-alter : (n : ℕ) (f : Fits w64 n) → Fixes (face.specs.contracts.uv_mapping.alter.ended (number n)) (face.proofs.uv_mapping.alter.Reads.Learnt n f)
+face-uv-mapping-alter n f κs a x y v w p q = (determined p q, refl)
 
 pub face-uv-mapping-wrap-uv : Fixes face.specs.contracts.uv_mapping.wrap_uv.ended face.proofs.uv_mapping.wrap_uv.Reads.Learnt
 face-uv-mapping-wrap-uv κs a x y v w p q = (determined p q, refl)
@@ -119,56 +112,47 @@ face-uv-mapping-wrap-six κs a x y v w p q = (determined p q, refl)
 pub face-inset-is-none : Fixes face.specs.contracts.inset.is_none.ended face.proofs.inset.is_none.Reads.Learnt
 face-inset-is-none κs a x y v w p q = (determined p q, refl)
 
-pub face-vec-add2 : Fixes face.specs.contracts.vec.add2.ended face.proofs.vec.add2.Reads.Learnt
-face-vec-add2 κs a x y v w p q = (determined p q, refl)
-
-pub face-vec-sub2 : Fixes face.specs.contracts.vec.sub2.ended face.proofs.vec.sub2.Reads.Learnt
-face-vec-sub2 κs a x y v w p q = (determined p q, refl)
-
-pub face-vec-scale2 : Fixes face.specs.contracts.vec.scale2.ended face.proofs.vec.scale2.Reads.Learnt
-face-vec-scale2 κs a x y v w p q = (determined p q, refl)
-
-pub face-vec-add3 : Fixes face.specs.contracts.vec.add3.ended face.proofs.vec.add3.Reads.Learnt
-face-vec-add3 κs a x y v w p q = (determined p q, refl)
-
-pub face-vec-sub3 : Fixes face.specs.contracts.vec.sub3.ended face.proofs.vec.sub3.Reads.Learnt
-face-vec-sub3 κs a x y v w p q = (determined p q, refl)
-
-pub face-vec-scale3 : Fixes face.specs.contracts.vec.scale3.ended face.proofs.vec.scale3.Reads.Learnt
-face-vec-scale3 κs a x y v w p q = (determined p q, refl)
-
-pub face-vec-squared2 : Fixes face.specs.contracts.vec.squared2.ended face.proofs.vec.squared2.Reads.Learnt
-face-vec-squared2 κs a x y v w p q = (determined p q, refl)
-
-pub face-vec-squared3 : Fixes face.specs.contracts.vec.squared3.ended face.proofs.vec.squared3.Reads.Learnt
-face-vec-squared3 κs a x y v w p q = (determined p q, refl)
-
-pub face-vec-len2 : Fixes face.specs.contracts.vec.len2.ended face.proofs.vec.len2.Reads.Learnt
-face-vec-len2 κs a x y v w p q = (determined p q, refl)
-
-pub face-vec-len3 : Fixes face.specs.contracts.vec.len3.ended face.proofs.vec.len3.Reads.Learnt
-face-vec-len3 κs a x y v w p q = (determined p q, refl)
-
 pub face-vec-one-over : Fixes face.specs.contracts.vec.one_over.ended face.proofs.vec.one_over.Reads.Learnt
 face-vec-one-over κs a x y v w p q = (determined p q, refl)
 
-pub face-vec-normalize2 : Fixes face.specs.contracts.vec.normalize2.ended face.proofs.vec.normalize2.Reads.Learnt
-face-vec-normalize2 κs a x y v w p q = (determined p q, refl)
+pub face-uv-mapping-UvOptionsDefault-default : Fixes face.specs.contracts.uv_mapping.UvOptionsDefault.default.ended face.proofs.uv_mapping.UvOptionsDefault.default.Reads.Learnt
+face-uv-mapping-UvOptionsDefault-default κs a x y v w p q = (determined p q, refl)
 
-pub face-vec-normalize3 : Fixes face.specs.contracts.vec.normalize3.ended face.proofs.vec.normalize3.Reads.Learnt
-face-vec-normalize3 κs a x y v w p q = (determined p q, refl)
+pub face-vec-Vec2Add-add : Fixes face.specs.contracts.vec.Vec2Add.add.ended face.proofs.vec.Vec2Add.add.Reads.Learnt
+face-vec-Vec2Add-add κs a x y v w p q = (determined p q, refl)
 
-pub face-vec-centroid2-four : Fixes face.specs.contracts.vec.centroid2_four.ended face.proofs.vec.centroid2_four.Reads.Learnt
-face-vec-centroid2-four κs a x y v w p q = (determined p q, refl)
+pub face-vec-Vec2Sub-sub : Fixes face.specs.contracts.vec.Vec2Sub.sub.ended face.proofs.vec.Vec2Sub.sub.Reads.Learnt
+face-vec-Vec2Sub-sub κs a x y v w p q = (determined p q, refl)
 
-pub face-vec-centroid2-six : Fixes face.specs.contracts.vec.centroid2_six.ended face.proofs.vec.centroid2_six.Reads.Learnt
-face-vec-centroid2-six κs a x y v w p q = (determined p q, refl)
+pub face-vec-Vec2MulF32-mul : Fixes face.specs.contracts.vec.Vec2MulF32.mul.ended face.proofs.vec.Vec2MulF32.mul.Reads.Learnt
+face-vec-Vec2MulF32-mul κs a x y v w p q = (determined p q, refl)
 
-pub face-vec-centroid3-four : Fixes face.specs.contracts.vec.centroid3_four.ended face.proofs.vec.centroid3_four.Reads.Learnt
-face-vec-centroid3-four κs a x y v w p q = (determined p q, refl)
+pub face-vec-Vec2DivF32-div : Fixes face.specs.contracts.vec.Vec2DivF32.div.ended face.proofs.vec.Vec2DivF32.div.Reads.Learnt
+face-vec-Vec2DivF32-div κs a x y v w p q = (determined p q, refl)
 
-pub face-vec-centroid3-six : Fixes face.specs.contracts.vec.centroid3_six.ended face.proofs.vec.centroid3_six.Reads.Learnt
-face-vec-centroid3-six κs a x y v w p q = (determined p q, refl)
+pub face-vec-Vec2Point-zero : Fixes face.specs.contracts.vec.Vec2Point.zero.ended face.proofs.vec.Vec2Point.zero.Reads.Learnt
+face-vec-Vec2Point-zero κs a x y v w p q = (determined p q, refl)
+
+pub face-vec-Vec2Point-squared : Fixes face.specs.contracts.vec.Vec2Point.squared.ended face.proofs.vec.Vec2Point.squared.Reads.Learnt
+face-vec-Vec2Point-squared κs a x y v w p q = (determined p q, refl)
+
+pub face-vec-Vec3Add-add : Fixes face.specs.contracts.vec.Vec3Add.add.ended face.proofs.vec.Vec3Add.add.Reads.Learnt
+face-vec-Vec3Add-add κs a x y v w p q = (determined p q, refl)
+
+pub face-vec-Vec3Sub-sub : Fixes face.specs.contracts.vec.Vec3Sub.sub.ended face.proofs.vec.Vec3Sub.sub.Reads.Learnt
+face-vec-Vec3Sub-sub κs a x y v w p q = (determined p q, refl)
+
+pub face-vec-Vec3MulF32-mul : Fixes face.specs.contracts.vec.Vec3MulF32.mul.ended face.proofs.vec.Vec3MulF32.mul.Reads.Learnt
+face-vec-Vec3MulF32-mul κs a x y v w p q = (determined p q, refl)
+
+pub face-vec-Vec3DivF32-div : Fixes face.specs.contracts.vec.Vec3DivF32.div.ended face.proofs.vec.Vec3DivF32.div.Reads.Learnt
+face-vec-Vec3DivF32-div κs a x y v w p q = (determined p q, refl)
+
+pub face-vec-Vec3Point-zero : Fixes face.specs.contracts.vec.Vec3Point.zero.ended face.proofs.vec.Vec3Point.zero.Reads.Learnt
+face-vec-Vec3Point-zero κs a x y v w p q = (determined p q, refl)
+
+pub face-vec-Vec3Point-squared : Fixes face.specs.contracts.vec.Vec3Point.squared.ended face.proofs.vec.Vec3Point.squared.Reads.Learnt
+face-vec-Vec3Point-squared κs a x y v w p q = (determined p q, refl)
 
 -- ---- patterns
 pub patterns-float : Fixes patterns.specs.contracts.float.ended patterns.proofs.float.Reads.Learnt

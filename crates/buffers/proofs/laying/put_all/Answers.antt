@@ -4,7 +4,6 @@ use mathlib.Core.Path.{◌≡◌}
 use Prim.Native.Nat.{◌<◌}
 use lib.ListN.{length}
 use Rattle.std.proofs.lemmas.List.{get_or_default}
-
 use Rattle.buffers.proofs.Laid.{laying-none, laying-more, laying-done}
 use Rattle.buffers.proofs.laying.put_all.Goals as goal
 

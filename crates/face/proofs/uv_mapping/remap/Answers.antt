@@ -11,4 +11,3 @@ returns-then-u c = sym (fma-of-one _ _ _ c.if-u.true)
 
 pub returns-then-u-2 : goal.returns-then-u-2
 returns-then-u-2 c = sym (fma-of-zero _ _ _ c.if-u-2.true)
-

@@ -3,4 +3,4 @@ use Rattle.buffers.proofs.Laid.{laid-two}
 use Rattle.buffers.proofs.laying.Vec2Laid.put.Goals as goal
 
 pub returns : goal.returns
-returns c = laid-two _ _ _ _ 
+returns c = laid-two _ _ _ _

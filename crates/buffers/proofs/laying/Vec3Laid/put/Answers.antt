@@ -3,4 +3,4 @@ use Rattle.buffers.proofs.Laid.{laid-three}
 use Rattle.buffers.proofs.laying.Vec3Laid.put.Goals as goal
 
 pub returns : goal.returns
-returns c = laid-three _ _ _ _ _ 
+returns c = laid-three _ _ _ _ _
