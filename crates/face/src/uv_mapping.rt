@@ -69,8 +69,8 @@ pub fn alter_uv(o: UvOptions, uv: Vec2) -> Vec2
     }
 }
 
-// By a range, here and in each loop over an array of any length: `map` asks that so many elements fit in memory,
-// which no clause of a total function may.
+// By a range, here and in each loop over an array of any length: `map` asks that so many elements fit in memory, and a
+// public function asks nothing.
 pub fn alter<const N: usize>(o: UvOptions, uvs: [Vec2; N]) -> [Vec2; N]
     ensures { result ≡ map (altered o) uvs.entry }
 {

@@ -4,9 +4,6 @@ use lib.ListN.{length, length-replicate}
 use Rattle.face.proofs.Filling.{filled_more, filled-all}
 use Rattle.insetting.proofs.edge_lengths.Goals as goal
 
-pub loop-i-init : goal.loop-i-init
-loop-i-init g c = (search rules, refl)
-
 pub loop-i-preserved : goal.loop-i-preserved
 loop-i-preserved g c = filled_more _ g.row.N _ _ _ _ c.loop-i.invariant c.loop-i-test.true (length-replicate g.row.N _) c.length_of.ensures
 

@@ -1,11 +1,9 @@
 -- `stand_hexagon`: the first six of its points and uvs. Assumes nothing.
 use borrow.Author.Rules.{rules}
-use mathlib.Core.Path.{ap, ap₂, ◌∙◌}
-use mathlib.Core.List.{List, map}
-use Rattle.face.specs.declared.vec.Vec2.{Vec2}
-use Rattle.face.specs.declared.vec.Vec3.{Vec3}
+use mathlib.Core.Path.{ap, ◌∙◌}
+use mathlib.Core.List.{map}
 use Rattle.face.specs.Vec.{off2, off3}
-use Rattle.placement.specs.Placing.{stood, stood_normal}
+use Rattle.placement.specs.Placing.{stood}
 use Rattle.buffers.proofs.PlainFaces.{six-of-twelve, six-first}
 use Rattle.buffers.proofs.plain.stand_hexagon.Goals as goal
 

@@ -6,9 +6,6 @@ use Rattle.face.specs.Texture.{altered}
 use Rattle.face.proofs.Filling.{filled_more, filled-map}
 use Rattle.face.proofs.uv_mapping.alter.Goals as goal
 
-pub loop-i-init : goal.loop-i-init
-loop-i-init g c = (search rules, refl)
-
 pub loop-i-preserved : goal.loop-i-preserved
 loop-i-preserved g c = filled_more _ g.row.N _ _ _ _ c.loop-i.invariant c.loop-i-test.true (search rules) c.alter_uv.ensures
 
