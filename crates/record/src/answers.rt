@@ -1,0 +1,36 @@
+// What a record has of an answer.
+use crate::words::Recorded;
+use answer::answer::Answer;
+use std::io::Read;
+
+// The number of an answer, both counts and the need.
+#[derive(Clone, Copy, PartialEq)]
+pub struct Told {
+    number: u32,
+    vertices: usize,
+    indices: usize,
+    need: usize,
+}
+
+impl From<Answer> for Told {
+    fn from(answer: Answer) -> Told {
+        let counts = answer::answer::counts_of(answer);
+        Told {
+            number: answer::answer::number_of(answer),
+            vertices: counts.vertices.0,
+            indices: counts.indices.0,
+            need: answer::answer::need_of(answer),
+        }
+    }
+}
+
+impl Recorded for Told {
+    fn read<R: Read>(from: &mut R) -> Told {
+        Told {
+            number: u32::read(from),
+            vertices: usize::read(from),
+            indices: usize::read(from),
+            need: usize::read(from),
+        }
+    }
+}
