@@ -1,4 +1,7 @@
 // What a record has of an answer.
+ghost use Rattle.std.specs.Prelude.{◌≡◌};
+ghost use Rattle.answer.specs.Answers.{number_of, counts_of, need_of};
+
 use crate::words::Recorded;
 use answer::answer::Answer;
 use std::io::Read;
@@ -13,6 +16,8 @@ pub struct Told {
 }
 
 impl From<Answer> for Told {
+    ghost from_gives = { λ a t. (t.number ≡ number_of a) × (t.vertices ≡ (counts_of a).vertices.0) × (t.indices ≡ (counts_of a).indices.0) × (t.need ≡ need_of a) };
+
     fn from(answer: Answer) -> Told {
         let counts = answer::answer::counts_of(answer);
         Told {

@@ -1,5 +1,6 @@
 // The lists of a job and of a mesh: each is as long as what is lent of it.
 ghost use Rattle.std.specs.Prelude.{◌≤◌};
+ghost use Rattle.record.specs.Digests.{words_of};
 
 use crate::digest::{Digest, Digested};
 use crate::words::Recorded;
@@ -46,6 +47,8 @@ impl Recorded for Room {
 }
 
 impl Digested for &Lists {
+    ghost words = { λ l. words_of l.now.vertices.items l.now.normals.items l.now.uvs.items l.now.indices.items };
+
     fn digested(self, d: Digest) -> Digest {
         let d = self.vertices.as_slice().digested(d);
         let d = self.normals.as_slice().digested(d);
