@@ -3,7 +3,7 @@ use crate::words;
 use crate::words::Recorded;
 use std::alloc::{AllocError, Global};
 use std::io::{Read, Write};
-use std::{fmt, io};
+use std::{array, fmt, io};
 
 // What ends a case.
 const END: u32 = 0xe4d;
@@ -42,11 +42,7 @@ impl fmt::Display for Tally {
 
 // The name of a kind, as the record has it.
 fn name<R: Read>(from: &mut R) -> [u8; 9] {
-    let mut name = [0u8; 9];
-    for b in &mut name {
-        *b = words::byte(from).unwrap_or(0);
-    }
-    name
+    array::from_fn(|_| words::byte(from).unwrap_or(0))
 }
 
 // Whether the record ends here, and as it should.

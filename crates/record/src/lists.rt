@@ -82,11 +82,7 @@ pub trait ReadLists: Read {
     where
         Self: Sized,
     {
-        let mut list = Vec::with_capacity(alloc, n)?;
-        for _ in 0..n {
-            list.push(T::read(self))?;
-        }
-        Ok(list)
+        (0..n).map(|_| T::read(self)).collect(alloc)
     }
 
     // The lists before a call: how much of each is lent, how much of it is other than what stands in all, and that.

@@ -8,6 +8,7 @@ use plane_builder::Plane;
 use record::lists::{FLOATS, ReadLists};
 use record::words::Recorded;
 use std::alloc::{AllocError, Global};
+use std::array;
 use std::io::Read;
 
 // The room of the marks of 65 options, one more than a job may have.
@@ -36,14 +37,7 @@ fn column<R: Read>(from: &mut R) -> Column {
     Column {
         height,
         subdivisions,
-        sides: [
-            side(from),
-            side(from),
-            side(from),
-            side(from),
-            side(from),
-            side(from),
-        ],
+        sides: array::from_fn(|_| side(from)),
         top: Choice::read(from),
         bottom: Choice::read(from),
         position,
