@@ -1,139 +1,81 @@
-// A job: how long its lists are, and its numbers. A cheap column and a plane are read as the words of a
-// column, and leave out what they have no use for.
-ghost use Rattle.std.specs.Prelude.{◌≤◌};
-
-use crate::words;
-use crate::words::{FLOATS, MARKS};
+// The words of a column, which serve a cheap column and a plane too: these leave out what they have no use for.
 use cheap_column::CheapColumn;
 use column::{Column, Side, Subdivisions};
+use face::vec::Vec2;
 use placement::options::Choice;
-use placement::placement::{Choice3, Placement, Turn};
+use placement::placement::Placement;
 use plane_builder::Plane;
+use record::lists::{FLOATS, ReadLists};
+use record::words::Recorded;
+use std::alloc::{AllocError, Global};
+use std::array;
+use std::io::Read;
 
-#[derive(Clone, Copy)]
-pub(crate) struct Lengths {
-    pub pairs: usize,
-    pub corners: usize,
-    pub numbers: usize,
-    pub marks: usize,
+// The room of the marks of 65 options, one more than a job may have.
+const MARKS: usize = 260;
+
+#[derive(Drop)]
+pub(crate) struct Words {
+    pub pairs: Vec<f32>,
+    pub corners: Vec<f32>,
+    pub numbers: Vec<f32>,
+    pub marks: Vec<u8>,
+    pub column: Column,
 }
 
-fn choice3() -> Choice3 {
-    if words::word() == 1 {
-        return Choice3::With(words::three());
-    }
-    Choice3::Absent
-}
-
-fn turn() -> Turn {
-    if words::word() == 1 {
-        let a = words::three();
-        let b = words::three();
-        let c = words::three();
-        return Turn::Rows(a, b, c);
-    }
-    Turn::Absent
-}
-
-fn placement() -> Placement {
-    let scale = choice3();
-    let turn = turn();
-    let offset = choice3();
-    Placement {
-        scale: scale,
-        turn: turn,
-        offset: offset,
+fn side<R: Read>(from: &mut R) -> Side {
+    Side {
+        option: Choice::read(from),
     }
 }
 
-pub(crate) fn read_lengths() -> Lengths
-    ensures { (result.pairs ≤ 800) × (result.corners ≤ 800) × (result.numbers ≤ 800) × (result.marks ≤ 260) }
-{
-    let pairs = words::size(FLOATS);
-    let corners = words::size(FLOATS);
-    let numbers = words::size(FLOATS);
-    let marks = words::size(MARKS);
-    Lengths {
-        pairs: pairs,
-        corners: corners,
-        numbers: numbers,
-        marks: marks,
-    }
-}
-
-// The number of an option; 256 is none.
-fn choice() -> Choice {
-    let word = words::word();
-    if word == 256 {
-        return Choice::Absent;
-    }
-    Choice::With((word % 256) as u8)
-}
-
-fn side() -> Side {
-    let option = choice();
-    Side { option: option }
-}
-
-fn sides() -> [Side; 6] {
-    let a = side();
-    let b = side();
-    let c = side();
-    let d = side();
-    let e = side();
-    let f = side();
-    [a, b, c, d, e, f]
-}
-
-fn subdivisions() -> Subdivisions {
-    if words::word() == 1 {
-        return Subdivisions::Of(words::word());
-    }
-    Subdivisions::Absent
-}
-
-pub(crate) fn read_column() -> Column {
-    let height = words::number();
-    let position = words::two();
-    let placement = placement();
-    let subdivisions = subdivisions();
-    let sides = sides();
-    let top = choice();
-    let bottom = choice();
+fn column<R: Read>(from: &mut R) -> Column {
+    let height = f32::read(from);
+    let position = Vec2::read(from);
+    let placement = Placement::read(from);
+    let subdivisions = Option::<u32>::read(from).map_or(Subdivisions::Absent, Subdivisions::Of);
     Column {
-        height: height,
-        subdivisions: subdivisions,
-        sides: sides,
-        top: top,
-        bottom: bottom,
-        position: position,
-        placement: placement,
+        height,
+        subdivisions,
+        sides: array::from_fn(|_| side(from)),
+        top: Choice::read(from),
+        bottom: Choice::read(from),
+        position,
+        placement,
     }
 }
 
-pub(crate) fn cheap_of(c: Column) -> CheapColumn {
-    let centre = c.position;
-    CheapColumn {
-        centre: centre,
-        height: c.height,
+impl Words {
+    pub(crate) fn read<R: Read>(from: &mut R, alloc: Global) -> Result<Words, AllocError> {
+        let pairs = from.count(FLOATS);
+        let corners = from.count(FLOATS);
+        let numbers = from.count(FLOATS);
+        let marks = from.count(MARKS);
+        Ok(Words {
+            pairs: from.list(alloc, pairs)?,
+            corners: from.list(alloc, corners)?,
+            numbers: from.list(alloc, numbers)?,
+            marks: from.list(alloc, marks)?,
+            column: column(from),
+        })
     }
-}
 
-fn option_of(c: Choice) -> u8 {
-    match c {
-        Choice::Absent => 255,
-        Choice::With(k) => k,
+    pub(crate) fn cheap(&self) -> CheapColumn {
+        CheapColumn {
+            centre: self.column.position,
+            height: self.column.height,
+        }
     }
-}
 
-// A plane has the option of the top.
-pub(crate) fn plane_of(c: Column) -> Plane {
-    let position = c.position;
-    let top = c.top;
-    let placement = c.placement;
-    Plane {
-        position: position,
-        option: option_of(top),
-        placement: placement,
+    // A plane has the option of the top.
+    pub(crate) fn plane(&self) -> Plane {
+        Plane {
+            position: self.column.position,
+            option: match self.column.top {
+                Choice::Absent => 255,
+                Choice::With(k) => k,
+            },
+            placement: self.column.placement,
+        }
     }
 }

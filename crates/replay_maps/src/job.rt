@@ -1,126 +1,181 @@
-// A height map: how long its lists are, and its numbers.
-ghost use Rattle.std.specs.Prelude.{◌≤◌};
-
-use crate::words;
-use crate::words::{FLOATS, LINKS, MARKS};
+// A height map: its lists, its numbers, and its calls.
+use answer::answer::Answer;
+use face::vec::Vec2;
 use heightmap::{Customs, Fringe, HeightMap, HeightRange, Origin};
 use placement::options::Choice;
-use placement::placement::{Choice3, Placement, Turn};
+use placement::placement::Placement;
+use record::jobs::Job;
+use record::lists::{FLOATS, Lists, ReadLists};
+use record::words::Recorded;
+use std::alloc::{AllocError, Global};
+use std::io::Read;
 
+// The most cells that a rule makes: with insets everywhere, one more than can be numbered.
+const MANY: usize = 1094;
+
+// The room of the marks of 65 options, one more than a job may have, and of the options of a map's faces.
+const MARKS: usize = 264;
+
+// The room of a map's neighbours.
+const LINKS: usize = 120;
+
+// How long the lists of a map are.
 #[derive(Clone, Copy)]
-pub(crate) struct Lengths {
-    pub cells: usize,
-    pub neighbours: usize,
-    pub fringe: usize,
-    pub customs: usize,
-    pub corners: usize,
-    pub numbers: usize,
-    pub marks: usize,
+struct Lengths {
+    cells: usize,
+    neighbours: usize,
+    fringe: usize,
+    customs: usize,
+    corners: usize,
+    numbers: usize,
+    marks: usize,
 }
 
-fn choice3() -> Choice3 {
-    if words::word() == 1 {
-        return Choice3::With(words::three());
-    }
-    Choice3::Absent
+#[derive(Drop)]
+pub(crate) struct Map {
+    cells: Vec<f32>,
+    neighbours: Vec<u32>,
+    fringe: Vec<f32>,
+    customs: Vec<u8>,
+    corners: Vec<f32>,
+    numbers: Vec<f32>,
+    marks: Vec<u8>,
+    map: HeightMap,
 }
 
-fn turn() -> Turn {
-    if words::word() == 1 {
-        let a = words::three();
-        let b = words::three();
-        let c = words::three();
-        return Turn::Rows(a, b, c);
-    }
-    Turn::Absent
-}
-
-fn placement() -> Placement {
-    let scale = choice3();
-    let turn = turn();
-    let offset = choice3();
-    Placement {
-        scale: scale,
-        turn: turn,
-        offset: offset,
+impl Recorded for Lengths {
+    fn read<R: Read>(from: &mut R) -> Lengths {
+        Lengths {
+            cells: from.count(FLOATS),
+            neighbours: from.count(LINKS),
+            fringe: from.count(FLOATS),
+            customs: from.count(MARKS),
+            corners: from.count(FLOATS),
+            numbers: from.count(FLOATS),
+            marks: from.count(MARKS),
+        }
     }
 }
 
-pub(crate) fn read_lengths() -> Lengths
-    ensures { (result.cells ≤ 800) × (result.neighbours ≤ 120) × (result.fringe ≤ 800) × (result.customs ≤ 264) × (result.corners ≤ 800) × (result.numbers ≤ 800) × (result.marks ≤ 264) }
-{
-    let cells = words::size(FLOATS);
-    let neighbours = words::size(LINKS);
-    let fringe = words::size(FLOATS);
-    let customs = words::size(MARKS);
-    let corners = words::size(FLOATS);
-    let numbers = words::size(FLOATS);
-    let marks = words::size(MARKS);
-    Lengths {
-        cells: cells,
-        neighbours: neighbours,
-        fringe: fringe,
-        customs: customs,
-        corners: corners,
-        numbers: numbers,
-        marks: marks,
+fn range<R: Read>(from: &mut R) -> HeightRange {
+    match Option::<(f32, f32)>::read(from) {
+        Some((min, max)) => HeightRange::Of(min, max),
+        None => HeightRange::OfAll,
     }
 }
 
-// The number of an option; 256 is none.
-fn choice() -> Choice {
-    let word = words::word();
-    if word == 256 {
-        return Choice::Absent;
+fn fringe<R: Read>(from: &mut R) -> Fringe {
+    if bool::read(from) {
+        Fringe::Listed
+    } else {
+        Fringe::Bare
     }
-    Choice::With((word % 256) as u8)
 }
 
-fn range() -> HeightRange {
-    if words::word() == 1 {
-        let min = words::number();
-        let max = words::number();
-        return HeightRange::Of(min, max);
+fn customs<R: Read>(from: &mut R) -> Customs {
+    if bool::read(from) {
+        Customs::Listed
+    } else {
+        Customs::Absent
     }
-    HeightRange::OfAll
 }
 
-fn fringe() -> Fringe {
-    if words::word() == 1 {
-        return Fringe::Listed;
-    }
-    Fringe::Bare
-}
-
-fn customs() -> Customs {
-    if words::word() == 1 {
-        return Customs::Listed;
-    }
-    Customs::Absent
-}
-
-fn origin() -> Origin {
-    if words::word() == 1 {
-        return Origin::At(words::two());
-    }
-    Origin::Centred
-}
-
-pub(crate) fn read_map() -> HeightMap {
-    let caps = choice();
-    let sides = choice();
-    let range = range();
-    let fringe = fringe();
-    let customs = customs();
-    let placement = placement();
-    let origin = origin();
+fn settings<R: Read>(from: &mut R) -> HeightMap {
     HeightMap {
-        caps: caps,
-        sides: sides,
-        range: range,
-        fringe: fringe,
-        customs: customs,
-        placement: placement,
-        origin: origin,
+        caps: Choice::read(from),
+        sides: Choice::read(from),
+        range: range(from),
+        fringe: fringe(from),
+        customs: customs(from),
+        placement: Placement::read(from),
+        origin: Option::<Vec2>::read(from).map_or(Origin::Centred, Origin::At),
+    }
+}
+
+impl Map {
+    // A map whose cells the record lists.
+    pub(crate) fn listed<R: Read>(from: &mut R, alloc: Global) -> Result<Map, AllocError> {
+        let of = Lengths::read(from);
+        Ok(Map {
+            cells: from.list(alloc, of.cells)?,
+            neighbours: from.list(alloc, of.neighbours)?,
+            fringe: from.list(alloc, of.fringe)?,
+            customs: from.list(alloc, of.customs)?,
+            corners: from.list(alloc, of.corners)?,
+            numbers: from.list(alloc, of.numbers)?,
+            marks: from.list(alloc, of.marks)?,
+            map: settings(from),
+        })
+    }
+
+    // A map of so many cells that no record lists them: the height of cell 0 is 0, all their other numbers are 1, and
+    // across every side is cell 0, so that six walls stand on each cell but that one.
+    pub(crate) fn of_many<R: Read>(from: &mut R, alloc: Global) -> Result<Map, AllocError> {
+        let many = from.count(MANY);
+        let of = Lengths::read(from);
+        let mut cells = vec![in alloc; 1.0; 27 * many]?;
+        if let Some(height) = cells.first_mut() {
+            *height = 0.0;
+        }
+        Ok(Map {
+            cells,
+            neighbours: vec![in alloc; 0; 6 * many]?,
+            fringe: Vec::new(alloc),
+            customs: Vec::new(alloc),
+            corners: from.list(alloc, of.corners)?,
+            numbers: from.list(alloc, of.numbers)?,
+            marks: from.list(alloc, of.marks)?,
+            map: settings(from),
+        })
+    }
+}
+
+impl Job for Map {
+    fn plan(&self) -> Answer {
+        heightmap_builder::plan(
+            self.map,
+            &self.cells,
+            &self.neighbours,
+            &self.fringe,
+            &self.customs,
+            &self.corners,
+            &self.numbers,
+            &self.marks,
+        )
+    }
+
+    fn build(&self, to: &mut Lists) -> Answer {
+        heightmap_builder::build(
+            self.map,
+            &self.cells,
+            &self.neighbours,
+            &self.fringe,
+            &self.customs,
+            &self.corners,
+            &self.numbers,
+            &self.marks,
+            &mut to.vertices,
+            &mut to.normals,
+            &mut to.uvs,
+            &mut to.indices,
+        )
+    }
+
+    fn face(&self, number: usize, to: &mut Lists) -> Answer {
+        heightmap_builder::face(
+            self.map,
+            &self.cells,
+            &self.neighbours,
+            &self.fringe,
+            &self.customs,
+            &self.corners,
+            &self.numbers,
+            &self.marks,
+            number,
+            &mut to.vertices,
+            &mut to.normals,
+            &mut to.uvs,
+            &mut to.indices,
+        )
     }
 }

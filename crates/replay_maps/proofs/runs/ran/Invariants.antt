@@ -1,7 +1,0 @@
--- `replay_maps::runs::ran` is safe and ends. Assumes nothing.
-use Prim.Native.Nat.{◌-◌}
-use borrow.Author.Rules.{rules}
-use Rattle.replay_maps.proofs.runs.ran.Given as goal
-
-abbrev pub invariant-loop-i : goal.invariant-loop-i
-invariant-loop-i l = Unit {0}
