@@ -2,7 +2,7 @@
 use mathlib.Core.Path.{◌≡◌, refl, sym, ap, ap₂, ◌∙◌}
 use mathlib.Core.Bool.{Bool, true, false, cond, ◌&&◌}
 use mathlib.Core.List.{List, [], ◌∷◌}
-use Prim.Native.Nat.{ℕ, ◌+◌, ◌*◌, ◌≤◌, ◌<◌}
+use Prim.Native.Nat.{ℕ, ◌+◌, ◌*◌, ◌≤◌}
 use native.Mathlib.Numerals.{add-one}
 use native.Mathlib.Omega.{arith}
 use borrow.Author.Tests.{leb-true}
@@ -10,7 +10,7 @@ use lib.ListN.{length, set, length-set}
 use lib.Dec.{leb}
 use lib.Ieee.{Float, nan}
 use borrow.Rule.Slice.PartMut.{put_mid}
-use Rattle.face.specs.Lists.{each, chain}
+use Rattle.face.specs.Lists.{chain}
 use Rattle.face.proofs.Filling.{each_all}
 use Rattle.answer.specs.Checks.{cell_count}
 use Rattle.buffers.specs.Laying.{spread, laid}

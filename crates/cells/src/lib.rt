@@ -20,9 +20,9 @@ pub struct Cell {
 }
 
 // The k-th cell's numbers and neighbours, where flat lists have them.
-fn put_cell(c: Cell, k: usize, cells: &mut [f32], neighbours: &mut [u32])
+fn put_cell(c: &Cell, k: usize, cells: &mut [f32], neighbours: &mut [u32])
     requires { (27 * k + 27 ≤ length cells.old) × (6 * k + 6 ≤ length neighbours.old) }
-    ensures { Storing c k cells neighbours }
+    ensures { Storing c.now k cells neighbours }
 {
     let at = 27 * k;
     cells[at] = c.height;
@@ -38,7 +38,7 @@ fn load_first(records: &[Cell], n: usize, cells: &mut [f32], neighbours: &mut [u
     ensures { (cells.new ≡ numbers_to records.now n cells.old) × (neighbours.new ≡ neighbours_to records.now n neighbours.old) }
 {
     for k in 0..n {
-        put_cell(records[k], k, cells, neighbours);
+        put_cell(&records[k], k, cells, neighbours);
     }
 }
 

@@ -1,6 +1,6 @@
 -- What the faces of a map share, so that it is worked out once: speed alone asks for it, and proofs/Plain.antt says that
 -- the faces are those of crate `heightmap`; B5, B8 and B17 are rows of docs/TRACE.md. Definitions only.
-use Rattle.std.specs.Prelude.{true, List, [], ◌∷◌, Float}
+use Rattle.std.specs.Prelude.{List, [], ◌∷◌, Float}
 use Rattle.face.specs.declared.vec.Vec2.{Vec2}
 use Rattle.face.specs.declared.vec.Vec3.{Vec3}
 use Rattle.face.specs.declared.face.Quad.{Quad}

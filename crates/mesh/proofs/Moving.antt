@@ -1,5 +1,5 @@
 -- What is done to a stored mesh: a buffer moved piece by piece, points summed, and what a done answer says. Assumes nothing.
-use Rattle.std.proofs.Common.{◌≡◌, ℕ, suc, ◌+◌, ◌-◌, ◌*◌, ◌<◌, ◌≤◌, Bool, true, ltb, List, length, get_or, pos, sym, refl, ap, ◌∙◌, inr, zero-add, arith, ltb-true, leb-true, add-one}
+use Rattle.std.proofs.Common.{◌≡◌, ℕ, ◌+◌, ◌*◌, ◌<◌, ◌≤◌, Bool, true, ltb, List, length, get_or, pos, sym, ap, ◌∙◌, inr, zero-add, arith, ltb-true, leb-true, add-one}
 use mathlib.Core.List.{foldl, foldl-append}
 use lib.Ieee.{Float, nan, binary32, of_int}
 use Rattle.face.specs.declared.triangle.Counts.{Counts}

@@ -7,6 +7,6 @@ use Rattle.cells.proofs.put_cell.Goals as goal
 
 pub returns : goal.returns
 returns c = let a = c.args in (
-  cell-laid a.c (search rules) (search rules) a.cells.now (27 * a.k) _ _ (omega arith) (omega arith) c.copy_from_slice.ensures.after,
-  words-laid a.c (search rules) (search rules) a.neighbours.now (6 * a.k) _ _ (omega arith) (omega arith) c.copy_from_slice-2.ensures.after,
+  cell-laid a.c.now (search rules) (search rules) a.cells.now (27 * a.k) _ _ (omega arith) (omega arith) c.copy_from_slice.ensures.after,
+  words-laid a.c.now (search rules) (search rules) a.neighbours.now (6 * a.k) _ _ (omega arith) (omega arith) c.copy_from_slice-2.ensures.after,
 )
