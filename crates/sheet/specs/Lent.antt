@@ -1,14 +1,9 @@
 -- Words for what is lent to a call, when it begins (`entry`) and when it ends (`exit`). Definitions only.
-use Rattle.std.specs.Prelude.{ℕ, ◌+◌, ◌≤◌, ◌≡◌, List, length, drop}
+use Rattle.std.specs.Prelude.{ℕ, ◌+◌, ◌≤◌, ◌≡◌, List, length}
 use Rattle.std.specs.Borrow.{MutBor}
 use Rattle.buffers.specs.Laying.{laid}
-use Rattle.buffers.specs.Lent.{Lent, Shown}
+use Rattle.buffers.specs.Lent.{Lent}
 
--- ---- reading
-abbrev pub bytes_from : Shown ℕ → ℕ → List ℕ
-bytes_from bytes at = drop at bytes.entry.now
-
--- ---- writing
 -- a text laid at a place of a buffer, and the place where it ends
 pub record Put (old : List ℕ) (at : ℕ) (text new : List ℕ) (end : ℕ) : Type 0 where
   pub buffer : new ≡ laid old at text
