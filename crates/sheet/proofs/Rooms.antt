@@ -1,6 +1,6 @@
 -- How long a text is, and what the tests before it say. Assumes nothing.
 use mathlib.Core.Path.{◌≡◌, refl, sym, ◌∙◌}
-use mathlib.Core.Bool.{Bool, true, false}
+use mathlib.Core.Bool.{Bool, true, false, ◌&&◌}
 use mathlib.Core.List.{List, [], ◌∷◌, ◌++◌}
 use Prim.Native.Nat.{ℕ, ◌+◌, ◌*◌, ◌-◌, ◌/◌, ◌%◌, ◌≤◌, ◌<◌}
 use native.Mathlib.Numerals.{add-one}
@@ -14,8 +14,9 @@ use Rattle.buffers.proofs.Laid.{chain_length}
 use Rattle.buffers.proofs.Rooms.{both}
 use Rattle.face.specs.declared.triangle.Counts.{Counts}
 use Rattle.buffers.specs.Laying.{Buffers}
+use Rattle.mesh.specs.Stored.{holds_counts}
 use Rattle.sheet.specs.Digits.{newline, hex_digits, decimal, digit_count, gap, heading}
-use Rattle.sheet.specs.Meshes.{float_word, index_word, float_lines, index_lines, floats_text, indices_text, mesh_text, text_length, refusal_text, vertices_word, normals_word, uvs_word, indices_word, refused_word, is_whole}
+use Rattle.sheet.specs.Meshes.{float_word, index_word, float_lines, index_lines, floats_text, indices_text, mesh_text, text_length, refusal_text, vertices_word, normals_word, uvs_word, indices_word, refused_word, is_whole, whole_in}
 use Rattle.sheet.proofs.Numerals.{length_digits}
 use Rattle.sheet.proofs.Pieces.{grown}
 
@@ -63,27 +64,40 @@ unfolding refusal_text
 length-refusal n = length-heading refused_word n ∙ omega arith
 
 -- ---- the test of the lists
+-- a fifth test after four
+fifth-decides : (p q r s t : Bool) → p && (q && (r && s)) ≡ true → t ≡ p && (q && (r && (s && t)))
+fifth-decides true true true true t e = refl
+fifth-decides true true true false t e = cc
+fifth-decides true true false s t e = cc
+fifth-decides true false r s t e = cc
+fifth-decides false q r s t e = cc
+
+fifth-idle : (p q r s t : Bool) → p && (q && (r && s)) ≡ false → false ≡ p && (q && (r && (s && t)))
+fifth-idle true true true true t e = cc
+fifth-idle true true true false t e = refl
+fifth-idle true true false s t e = refl
+fifth-idle true false r s t e = refl
+fifth-idle false q r s t e = refl
+
+module _ (B : Buffers) (c : Counts) where
+  abbrev held : Bool
+  held = holds_counts c (length B.vertices) (length B.normals) (length B.uvs) (length B.indices)
+
+  abbrev v₀ : ℕ
+  v₀ = c.vertices.0
+
+  abbrev whole_triangles : Bool
+  whole_triangles = eqb (c.indices.0 % 3) 0
+
+  pub held-decides : held ≡ true → whole_triangles ≡ whole_in B c
+  unfolding is_whole
+  held-decides = fifth-decides (leb (3 * v₀) (length B.vertices)) (leb (3 * v₀) (length B.normals)) (leb (2 * v₀) (length B.uvs)) (leb c.indices.0 (length B.indices)) whole_triangles
+
+  pub held-not : held ≡ false → false ≡ whole_in B c
+  unfolding is_whole
+  held-not = fifth-idle (leb (3 * v₀) (length B.vertices)) (leb (3 * v₀) (length B.normals)) (leb (2 * v₀) (length B.uvs)) (leb c.indices.0 (length B.indices)) whole_triangles
+
 module _ (v i a b c d : ℕ) where
-  pub short-vertices : a < 3 * v → false ≡ is_whole v i a b c d
-  unfolding is_whole
-  short-vertices h = rw (lt-leb (3 * v) a h)
-
-  pub short-normals : 3 * v ≤ a → b < 3 * v → false ≡ is_whole v i a b c d
-  unfolding is_whole
-  short-normals p h = rw (le-leb (3 * v) a p, lt-leb (3 * v) b h)
-
-  pub short-uvs : 3 * v ≤ a → 3 * v ≤ b → c < 2 * v → false ≡ is_whole v i a b c d
-  unfolding is_whole
-  short-uvs p q h = rw (le-leb (3 * v) a p, le-leb (3 * v) b q, lt-leb (2 * v) c h)
-
-  pub short-indices : 3 * v ≤ a → 3 * v ≤ b → 2 * v ≤ c → d < i → false ≡ is_whole v i a b c d
-  unfolding is_whole
-  short-indices p q r h = rw (le-leb (3 * v) a p, le-leb (3 * v) b q, le-leb (2 * v) c r, lt-leb i d h)
-
-  pub triangles-decide : 3 * v ≤ a → 3 * v ≤ b → 2 * v ≤ c → i ≤ d → eqb (i % 3) 0 ≡ is_whole v i a b c d
-  unfolding is_whole
-  triangles-decide p q r h = rw (le-leb (3 * v) a p, le-leb (3 * v) b q, le-leb (2 * v) c r, le-leb i d h)
-
   pub is-whole : (x : Bool) → x ≡ is_whole v i a b c d → x ≡ true → is_whole v i a b c d ≡ true
   is-whole x p e = sym p ∙ e
 

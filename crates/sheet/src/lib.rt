@@ -17,6 +17,7 @@ ghost use Rattle.sheet.specs.Meshes.{refusal_text, TextWritten};
 ghost use Rattle.sheet.specs.Answering.{plain_if, sides_of, column_of, lists_of, column_text, Answered};
 
 use crate::reading::Sheet;
+use crate::writing::Stored;
 use answer::answer::{Answer, Refusal};
 use column::{Column, Side, Subdivisions};
 use face::vec::Vec2;
@@ -86,9 +87,16 @@ fn write_column(job: Column, pairs: &[f32], corners: &[f32], out: &mut [u8]) -> 
     );
     match answer {
         Answer::Refused(why) => write_refusal(why, out),
-        Answer::Done(counts) => writing::write_mesh(
-            &vertices, &normals, &uvs, &indices, counts, out,
-        ),
+        Answer::Done(counts) => {
+            let mesh = Stored {
+                vertices: &vertices,
+                normals: &normals,
+                uvs: &uvs,
+                indices: &indices,
+                counts,
+            };
+            writing::write_mesh(mesh, out)
+        }
     }
 }
 
