@@ -39,7 +39,7 @@ use Rattle.column.proofs.Counts.{column-counts}
 use Rattle.column_builder.proofs.Whole.{column-own}
 use Rattle.sheet.specs.Readers.{reading}
 use Rattle.sheet.specs.Meshes.{mesh_text, refusal_text, Written}
-use Rattle.sheet.specs.Answering.{column_of, lists_of, printable, flat, text_of, text_for, column_text, reading_text, answer_text, Answered, room}
+use Rattle.sheet.specs.Answering.{column_of, printable, flat, text_of, text_for, column_text, reading_text, answer_text, Answered, room}
 use Rattle.sheet.proofs.Numerals.{count-within}
 use Rattle.sheet.proofs.Rooms.{length-mesh, length-refusal}
 use Rattle.sheet.proofs.Laws.{index-lines-most}

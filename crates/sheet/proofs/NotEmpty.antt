@@ -12,7 +12,6 @@ use Rattle.column.specs.declared.Column.{Column}
 use Rattle.column.specs.Column.{Lists, column_faces, planned}
 use Rattle.sheet.specs.declared.reading.Sheet.{Sheet}
 use Rattle.sheet.specs.Readers.{reading}
-use Rattle.sheet.specs.Meshes.{refusal_text}
 use Rattle.sheet.specs.Answering.{column_of, lists_of, printable, flat, text_for, column_text, reading_text, answer_text}
 use Rattle.sheet.proofs.Laws.{mesh-some, refusal-some}
 

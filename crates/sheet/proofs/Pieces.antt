@@ -59,9 +59,6 @@ module _ (old : List ℕ) (at : ℕ) (xs ys mid : List ℕ) (a : ℕ) where
   }
 
 -- ---- the same of a text's buffer
-puts-length : (a b : Text) (xs : List ℕ) → Puts a xs b → length b.out.now ≡ length a.out.now
-puts-length a b xs p = put-length _ _ _ _ _ p.put
-
 pub text-room : (a : Text) (xs ys : List ℕ) → RoomFor a (xs ++ ys) → RoomFor a xs
 text-room a xs ys h = room-first a.out.now a.len xs ys h
 

@@ -26,12 +26,9 @@ use Rattle.column.specs.declared.Column.{Column}
 use Rattle.column.specs.Column.{Lists, column_faces, planned}
 use Rattle.column_builder.specs.Calls.{whole_answer, built}
 use Rattle.column_builder.proofs.Whole.{passes, column-few}
-use Rattle.std.specs.Prelude.{Option}
-use Rattle.sheet.specs.declared.reading.Sheet.{Sheet}
-use Rattle.sheet.specs.Readers.{reading}
 use Rattle.sheet.specs.Meshes.{mesh_text, refusal_text, is_whole, whole_in, Written, TextWritten, MeshWritten}
 use Rattle.sheet.proofs.Alike.{mesh-alike}
-use Rattle.sheet.specs.Answering.{printable, flat, text_of, text_for, column_text, reading_text, answer_text, Answered}
+use Rattle.sheet.specs.Answering.{printable, flat, text_of, text_for, column_text}
 
 -- ---- a column has at most four indices a vertex, so buffers for 1,024 vertices and 4,096 indices refuse a plan exactly
 -- when it has more vertices
@@ -126,8 +123,3 @@ module _ (job : Column) (ls : Lists) (B : Buffers) (s : For1024 B) where
       let l : SameLengths B C = subst (λ (X : Buffers). SameLengths B X) (sym (d ∙ all-is-joined fs none B)) (lay-lengths (joined fs) none B) in
       subst (λ (x : List ℕ). TextWritten x old new n) (sym (text-done job ls B c s p))
       (buffers-written (joined fs) c z C h (rw (l.vertices, l.normals, l.uvs, l.indices) q.1) old new n w)
-
--- ---- what is read is answered as its text
-pub reading-written : (bytes : List ℕ) (r : Option Sheet) → r ≡ reading bytes → (old new : List ℕ) (n : ℕ) → TextWritten (reading_text r) old new n → Answered bytes old new n
-unfolding answer_text
-reading-written bytes r e old new n w = subst (λ (t : List ℕ). TextWritten t old new n) (ap reading_text e) w

@@ -1,12 +1,12 @@
 -- How long a text is, and what the tests before it say. Assumes nothing.
-use mathlib.Core.Path.{◌≡◌, refl, sym, ◌∙◌}
-use mathlib.Core.Bool.{Bool, true, false, ◌&&◌}
+use mathlib.Core.Path.{◌≡◌, sym, ◌∙◌}
+use mathlib.Core.Bool.{Bool, true, false}
 use mathlib.Core.List.{List, [], ◌∷◌, ◌++◌}
-use Prim.Native.Nat.{ℕ, ◌+◌, ◌*◌, ◌-◌, ◌/◌, ◌%◌, ◌≤◌, ◌<◌}
+use Prim.Native.Nat.{ℕ, ◌+◌, ◌*◌, ◌-◌, ◌≤◌, ◌<◌}
 use native.Mathlib.Numerals.{add-one}
 use native.Mathlib.Omega.{arith}
-use borrow.Author.Tests.{le-leb, lt-leb, leb-true, leb-false}
-use lib.Dec.{leb, eqb}
+use borrow.Author.Tests.{le-leb, lt-leb, leb-true}
+use lib.Dec.{leb}
 use lib.ListN.{length, get_or, length-append}
 use lib.Ieee.{Float}
 use Rattle.face.specs.Lists.{chain}
@@ -14,20 +14,10 @@ use Rattle.buffers.proofs.Laid.{chain_length}
 use Rattle.buffers.proofs.Rooms.{both}
 use Rattle.face.specs.declared.triangle.Counts.{Counts}
 use Rattle.buffers.specs.Laying.{Buffers}
-use Rattle.mesh.specs.Stored.{holds_counts}
 use Rattle.sheet.specs.Digits.{newline, hex_digits, decimal, digit_count, gap, heading}
-use Rattle.sheet.specs.Meshes.{float_word, index_word, float_lines, index_lines, floats_text, indices_text, mesh_text, text_length, refusal_text, vertices_word, normals_word, uvs_word, indices_word, refused_word, is_whole, whole_in}
+use Rattle.sheet.specs.Meshes.{float_word, index_word, float_lines, index_lines, floats_text, indices_text, mesh_text, text_length, refusal_text, vertices_word, normals_word, uvs_word, indices_word, refused_word, is_whole}
 use Rattle.sheet.proofs.Numerals.{length_digits}
 use Rattle.sheet.proofs.Pieces.{grown}
-
--- ---- tests
--- two tests that say the same
-pub same_test : (p q r s : ℕ) → (p ≤ q → r ≤ s) → (q < p → s < r) → leb p q ≡ leb r s
-same_test p q r s f g = go (leb p q) refl
-  where
-    go : (x : Bool) → leb p q ≡ x → x ≡ leb r s
-    go true e = sym (le-leb r s (f (leb-true p q e)))
-    go false e = sym (lt-leb r s (g (leb-false p q e)))
 
 -- ---- lengths
 pub length-heading : (word : List ℕ) (n : ℕ) → length (heading word n) ≡ length word + (digit_count n + 1)
@@ -64,39 +54,6 @@ unfolding refusal_text
 length-refusal n = length-heading refused_word n ∙ omega arith
 
 -- ---- the test of the lists
--- a fifth test after four
-fifth-decides : (p q r s t : Bool) → p && (q && (r && s)) ≡ true → t ≡ p && (q && (r && (s && t)))
-fifth-decides true true true true t e = refl
-fifth-decides true true true false t e = cc
-fifth-decides true true false s t e = cc
-fifth-decides true false r s t e = cc
-fifth-decides false q r s t e = cc
-
-fifth-idle : (p q r s t : Bool) → p && (q && (r && s)) ≡ false → false ≡ p && (q && (r && (s && t)))
-fifth-idle true true true true t e = cc
-fifth-idle true true true false t e = refl
-fifth-idle true true false s t e = refl
-fifth-idle true false r s t e = refl
-fifth-idle false q r s t e = refl
-
-module _ (B : Buffers) (c : Counts) where
-  abbrev held : Bool
-  held = holds_counts c (length B.vertices) (length B.normals) (length B.uvs) (length B.indices)
-
-  abbrev v₀ : ℕ
-  v₀ = c.vertices.0
-
-  abbrev whole_triangles : Bool
-  whole_triangles = eqb (c.indices.0 % 3) 0
-
-  pub held-decides : held ≡ true → whole_triangles ≡ whole_in B c
-  unfolding is_whole
-  held-decides = fifth-decides (leb (3 * v₀) (length B.vertices)) (leb (3 * v₀) (length B.normals)) (leb (2 * v₀) (length B.uvs)) (leb c.indices.0 (length B.indices)) whole_triangles
-
-  pub held-not : held ≡ false → false ≡ whole_in B c
-  unfolding is_whole
-  held-not = fifth-idle (leb (3 * v₀) (length B.vertices)) (leb (3 * v₀) (length B.normals)) (leb (2 * v₀) (length B.uvs)) (leb c.indices.0 (length B.indices)) whole_triangles
-
 module _ (v i a b c d : ℕ) where
   pub is-whole : (x : Bool) → x ≡ is_whole v i a b c d → x ≡ true → is_whole v i a b c d ≡ true
   is-whole x p e = sym p ∙ e
@@ -125,14 +82,3 @@ module _ (is : List ℕ) (n room k left w : ℕ) (u : k < n) (taken : left + len
 pub indices-within : (is : List ℕ) (n room k left : ℕ) → k ≤ n → n ≤ k → left + length (chain (index_word is) k) ≡ room → true ≡ leb (length (index_lines is n)) room
 unfolding index_lines
 indices-within is n room k left h g taken = let e : k ≡ n = omega arith in let t : left + length (chain (index_word is) n) ≡ room = rw e at taken in sym (le-leb (length (chain (index_word is) n)) room (omega arith))
-
--- ---- the test of the whole text's room: v vertices, headings of h bytes and n bytes of indices
-module _ (v h n room : ℕ) where
-  pub numbers-over : room / 72 < v → false ≡ leb (72 * v + (h + n)) room
-  numbers-over u = sym (lt-leb (72 * v + (h + n)) room (omega arith))
-
-  pub headings-over : v ≤ room / 72 → room - 72 * v < h → false ≡ leb (72 * v + (h + n)) room
-  headings-over p u = sym (lt-leb (72 * v + (h + n)) room (omega arith))
-
-  pub indices-decide : v ≤ room / 72 → h ≤ room - 72 * v → leb n (room - 72 * v - h) ≡ leb (72 * v + (h + n)) room
-  indices-decide p q = same_test n (room - 72 * v - h) (72 * v + (h + n)) room (λ u. omega arith) (λ u. omega arith)

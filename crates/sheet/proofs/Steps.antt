@@ -1,12 +1,12 @@
 -- One step of the cursor is one step of its reader. Assumes nothing.
-use mathlib.Core.Path.{◌≡◌, refl, sym, ap, subst, ◌∙◌}
+use mathlib.Core.Path.{◌≡◌, refl, sym}
 use mathlib.Core.Bool.{Bool, true, false, ◌&&◌}
 use mathlib.Core.List.{List, [], ◌∷◌, ◌++◌}
-use Prim.Native.Nat.{ℕ, zero, suc, ◌+◌, ◌*◌, ◌-◌, ◌^◌, ◌≤◌, ◌<◌}
+use Prim.Native.Nat.{ℕ, suc, ◌+◌, ◌*◌, ◌-◌, ◌^◌, ◌≤◌, ◌<◌}
 use native.Mathlib.Nat.{mul-le-mul_left, pow-le-pow_right, pow-suc}
 use native.Mathlib.Numerals.{add-one}
 use native.Mathlib.Omega.{arith}
-use borrow.Author.Tests.{lt-ltb, le-ltb, le-leb, eq-eqb, ne_eqb, ltb-true, ltb-false}
+use borrow.Author.Tests.{lt-ltb, le-ltb, le-leb, ltb-true, ltb-false}
 use lib.Dec.{ltb, eqb}
 use lib.ListN.{length, take, drop, set, replicate, length-replicate}
 use lib.Seq.{length-take-le, take-suc-set}
@@ -14,7 +14,7 @@ use Rattle.sheet.specs.Digits.{gap}
 use lib.Pointwise.{pointwise}
 use Rattle.patterns.specs.Digits.{digit_value}
 use Rattle.sheet.proofs.Formats.{not_none, only-if-inv, taken-value, taken-rest}
-use Rattle.sheet.specs.Readers.{Taken, taken, none, next, only_if, mark_of, word_of, digit_at, digit_of, hex_from, hex_of, decimal_from, decimal_of, section_of, numbers_from, numbers_of, block_of}
+use Rattle.sheet.specs.Readers.{Taken, taken, none, next, only_if, mark_of, word_of, digit_at, digit_of, hex_from, hex_of, decimal_from, section_of, numbers_from, numbers_of, block_of}
 
 -- ---- a word
 abbrev after_byte : Bool → List ℕ → List ℕ → Taken Unit
@@ -105,19 +105,6 @@ module _ (v : ℕ) where
   unfolding decimal_from digit_at
   decimal-over d [] t e h = absurd (not_none (sym e))
   decimal-over d (b ∷ s) t e h = rw ((read 10 d (b ∷ s) t e).0, digit-is 10 d (b ∷ s) t e, le-ltb (v * 10 + d) 4294967296 h)
-
-module _ (s : List ℕ) where
-  pub decimal-not : none ≡ digit_of 10 s → none ≡ decimal_of s
-  unfolding decimal_of
-  decimal-not e = rw (le-ltb (digit_at s) 10 (no_digit 10 s e))
-
-  pub decimal-zero : (d : ℕ) (t : List ℕ) → taken d t ≡ digit_of 10 s → d ≡ 0 → taken 0 t ≡ decimal_of s
-  unfolding decimal_of
-  decimal-zero d t e z = rw ((read 10 d s t e).0, digit-is 10 d s t e, digit-rest 10 d s t e, z)
-
-  pub decimal-first : (d : ℕ) (t : List ℕ) → taken d t ≡ digit_of 10 s → (d ≡ 0 → ⊥) → decimal_from d t ≡ decimal_of s
-  unfolding decimal_of
-  decimal-first d t e z = rw ((read 10 d s t e).0, digit-is 10 d s t e, digit-rest 10 d s t e, ne_eqb d 0 z)
 
 -- ---- numbers
 pub numbers_more : (width many i x : ℕ) (out s a b : List ℕ) → i < many → many ≡ length out → taken x a ≡ hex_of s → taken (tt {0}) b ≡ mark_of (gap width i) a → numbers_from width (many - i) (take i out) s ≡ numbers_from width (many - (i + 1)) (take (i + 1) (set out i x)) b

@@ -51,7 +51,7 @@ fn column_of(sheet: Sheet) -> Column
     Column {
         height: patterns::float(sheet.height),
         subdivisions: Subdivisions::Of(sheet.subdivisions),
-        sides: sides,
+        sides,
         top: cap,
         bottom: cap,
         position: Vec2 { x: 0.0, y: 0.0 },
@@ -68,8 +68,6 @@ fn column_of(sheet: Sheet) -> Column
 fn write_column(job: Column, pairs: &[f32], corners: &[f32], out: &mut [u8]) -> usize
     ensures { TextWritten (column_text job (lists pairs.now corners.now [] [])) out.old out.new result }
 {
-    let numbers = [0f32; 0];
-    let marks = [0u8; 0];
     let mut vertices = [0f32; 3072];
     let mut normals = [0f32; 3072];
     let mut uvs = [0f32; 2048];
@@ -78,8 +76,8 @@ fn write_column(job: Column, pairs: &[f32], corners: &[f32], out: &mut [u8]) -> 
         job,
         pairs,
         corners,
-        &numbers,
-        &marks,
+        &[],
+        &[],
         &mut vertices,
         &mut normals,
         &mut uvs,
@@ -117,6 +115,7 @@ fn write_sheet(sheet: Sheet, out: &mut [u8]) -> usize
 
 // Writes the answer of a sheet at the start of a buffer, and answers how many bytes it takes. Where
 // they do not fit, it writes nothing and answers 0.
+#[tactic(auto, unfolding(crate::specs::Answering::answer_text))]
 pub fn write_answer(bytes: &[u8], out: &mut [u8]) -> usize
     ensures { Answered bytes.now out.old out.new result }
 {

@@ -66,6 +66,7 @@ impl<'a> Cursor<'a> {
     }
 
     // A first 0 is the whole number: a digit after it is no newline.
+    #[tactic(auto, unfolding(crate::specs::Readers::decimal_of))]
     pub(crate) fn decimal(&mut self) -> Option<u32>
         ensures { seen self.new.rest.now result ≡ decimal_of self.old.rest.now }
     {

@@ -21,6 +21,7 @@ pub(crate) struct Stored<'a> {
 
 impl<'a> Stored<'a> {
     // Whether its lists reach as far as its counts say, and no triangle lacks a corner.
+    #[tactic(auto, unfolding(crate::specs::Meshes::is_whole))]
     fn is_whole(&self) -> bool
         ensures { result ≡ whole_in (buffers_of self.now) self.now.counts }
     {

@@ -1,5 +1,4 @@
 use borrow.Author.Rules.{rules}
-use mathlib.Core.Path.{refl}
 use lib.Ieee.{nan}
 use Rattle.patterns.specs.Patterns.{float_of}
 use Rattle.sheet.proofs.Arrays.{mapped}

@@ -1,5 +1,5 @@
 -- `digit_count`: the digits are counted by the powers of ten. Assumes nothing.
-use mathlib.Core.Path.{◌≡◌, sym}
+use mathlib.Core.Path.{sym}
 use native.Mathlib.Omega.{arith}
 use Rattle.sheet.proofs.Numerals.{count-between, count_small}
 use Rattle.sheet.proofs.digits.digit_count.Goals as goal

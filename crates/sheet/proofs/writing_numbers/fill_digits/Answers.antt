@@ -1,5 +1,5 @@
 use native.Mathlib.Omega.{arith}
-use mathlib.Core.Path.{◌≡◌, refl, sym, ◌∙◌}
+use mathlib.Core.Path.{◌≡◌}
 use lib.ListN.{length-set}
 use Rattle.sheet.specs.Digits.{digits}
 use Rattle.sheet.proofs.Numerals.{digit-written}

@@ -1,7 +1,6 @@
 -- `fill_digits`: what is left to write stands before what is written, and they make the whole. Assumes nothing.
 use mathlib.Core.Path.{◌≡◌}
 use mathlib.Core.List.{◌++◌}
-use Prim.Native.Nat.{◌≤◌}
 use lib.ListN.{length, drop}
 use Rattle.sheet.specs.Digits.{digits}
 use Rattle.sheet.proofs.writing_numbers.fill_digits.Given as goal

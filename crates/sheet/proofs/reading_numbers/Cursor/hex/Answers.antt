@@ -1,5 +1,5 @@
 use native.Mathlib.Omega.{arith}
-use mathlib.Core.Path.{refl, sym, ◌∙◌}
+use mathlib.Core.Path.{sym, ◌∙◌}
 use Rattle.sheet.proofs.Steps.{digit-below, hex-more, hex-not, hex-room, hex-grown, hex-whole}
 use Rattle.sheet.proofs.reading_numbers.Cursor.hex.Goals as goal
 

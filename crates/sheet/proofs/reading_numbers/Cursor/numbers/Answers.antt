@@ -1,6 +1,6 @@
 use native.Mathlib.Omega.{arith}
 use mathlib.Core.Path.{sym, ◌∙◌}
-use lib.ListN.{length, length-set}
+use lib.ListN.{length-set}
 use Rattle.sheet.proofs.Steps.{numbers_more}
 use Rattle.sheet.proofs.reading_numbers.Cursor.numbers.Goals as goal
 

@@ -1,7 +1,7 @@
 -- `numbers`: the first i places hold what is read, so the rest decide. Assumes nothing.
 use mathlib.Core.Path.{◌≡◌}
 use mathlib.Core.List.{[]}
-use Prim.Native.Nat.{◌≤◌, ◌-◌}
+use Prim.Native.Nat.{◌-◌}
 use lib.ListN.{length, take}
 use Rattle.sheet.specs.Readers.{numbers_from}
 use Rattle.sheet.proofs.reading_numbers.Cursor.numbers.Given as goal

@@ -1,7 +1,6 @@
 -- `put_decimal`: as many digits as are counted. Assumes nothing.
 use native.Mathlib.Omega.{arith}
 use mathlib.Core.Path.{refl}
-use Prim.Native.Nat.{◌+◌}
 use Rattle.sheet.specs.Digits.{digit_count}
 use Rattle.sheet.proofs.Numerals.{length_digits}
 use Rattle.sheet.proofs.Pieces.{put-digits}

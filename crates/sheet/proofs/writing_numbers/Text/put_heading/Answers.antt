@@ -4,9 +4,6 @@ use Rattle.sheet.specs.Digits.{decimal}
 use Rattle.sheet.proofs.Pieces.{text-room, text-room-next, puts-next}
 use Rattle.sheet.proofs.writing_numbers.Text.put_heading.Goals as goal
 
-pub put_word-requires : goal.put_word-requires
-put_word-requires c = text-room c.args.self.now c.args.word.now (decimal c.args.n ++ (10 ∷ [])) c.requires
-
 pub put_decimal-requires : goal.put_decimal-requires
 put_decimal-requires c = text-room c.put_word.new.self (decimal c.args.n) (10 ∷ []) (text-room-next _ _ c.args.word.now _ c.requires c.put_word.ensures)
 
