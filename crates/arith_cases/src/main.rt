@@ -7,7 +7,6 @@ mod record;
 mod report;
 mod tally;
 
-use std::io;
 use std::io::Read;
 use tally::{Case, Tally};
 
@@ -107,9 +106,10 @@ fn compared(input: &mut impl Read) -> Option<(Tally<1>, Tally<3>)> {
     Some((of_root, of_fused))
 }
 
-fn main(rt: HostRuntime) -> io::Result<()> {
-    match compared(&mut rt.stdin()) {
+// What cannot be written is lost: it is no case that differs.
+fn main(rt: HostRuntime) {
+    let _ = match compared(&mut rt.stdin()) {
         Some((of_root, of_fused)) => report::report(&rt, &of_root, &of_fused),
         None => println!(rt; "the record does not read"),
-    }
+    };
 }

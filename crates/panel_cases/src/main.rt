@@ -11,14 +11,13 @@ use cases::Cases;
 // Room for all cases; the program writes too little if they are more.
 const ROOM: usize = 8192;
 
-fn main(rt: HostRuntime) -> std::io::Result<()> {
+fn main() {
     let mut text = [0u8; ROOM];
     let n = io::read_full(0, &mut text);
-    let mut out = std::io::writer(&rt);
     for case in Cases(&text[..n]) {
-        show::print_case(&mut out, case)?;
+        show::print_case(case);
     }
-    show::print_heading(&mut out)?;
-    show::print_short::<9>(&mut out)?;
-    show::print_short::<11>(&mut out)
+    io::write_all(1, b"too short, and long enough\n");
+    show::print_short::<9>();
+    show::print_short::<11>();
 }

@@ -1,8 +1,8 @@
-// Asking for an answer, and printing it.
+// Asking for an answer, and printing it. The prints of `io` rest on the C library's `write` alone;
+// those of std would read its error number too.
 ghost use Rattle.std.specs.Prelude.{◌≤◌};
 
 use crate::cases::Case;
-use std::io::{Result, Write};
 
 // `room` of the sheet's definitions, which every answer fits.
 const ROOM: usize = 81487;
@@ -17,34 +17,33 @@ fn sum_of(text: &[u8]) -> u32 {
     })
 }
 
-fn print_answer(out: &mut impl Write, answer: &[u8]) -> Result<()> {
+fn print_answer(answer: &[u8]) {
     if answer.len() <= SHORT {
-        return out.write_all(answer);
+        io::write_all(1, answer);
+    } else {
+        io::print_decimal(1, answer.len() as u64);
+        io::write_all(1, b" bytes, sum ");
+        io::print_hex(1, u64::from(sum_of(answer)), 8);
+        io::write_all(1, b"\n");
     }
-    let n = answer.len();
-    let sum = sum_of(answer);
-    writeln!(out, "{n} bytes, sum {sum:08x}")
 }
 
-pub(crate) fn print_case(out: &mut impl Write, case: Case<'_>) -> Result<()> {
+pub(crate) fn print_case(case: Case<'_>) {
     let mut answer = [0u8; ROOM];
     let n = sheet::write_answer(case.sheet, &mut answer);
-    out.write_all(case.name)?;
-    out.write_all(b"\n")?;
-    print_answer(out, &answer[..n])
-}
-
-pub(crate) fn print_heading(out: &mut impl Write) -> Result<()> {
-    out.write_all(b"too short, and long enough\n")
+    io::write_all(1, case.name);
+    io::write_all(1, b"\n");
+    print_answer(&answer[..n]);
 }
 
 // An answer of ten bytes, for so many places.
-pub(crate) fn print_short<const N: usize>(out: &mut impl Write) -> Result<()>
+pub(crate) fn print_short<const N: usize>()
     requires { N ≤ 64 }
 {
     let mut places = [b'-'; N];
     let n = sheet::write_answer(b"", &mut places);
-    write!(out, "{n} ")?;
-    out.write_all(&places)?;
-    out.write_all(b"\n")
+    io::print_decimal(1, n as u64);
+    io::write_all(1, b" ");
+    io::write_all(1, &places);
+    io::write_all(1, b"\n");
 }
