@@ -36,8 +36,8 @@ impl<'a> Cursor<'a> {
         requires { (0 < width) × (length out.old < 100) }
         ensures { list_seen self.new.rest.now out.new result ≡ numbers_from width (length out.old) [] self.old.rest.now }
     {
-        for i in 0..out.len() {
-            out[i] = self.hex()?;
+        for (i, place) in out.iter_mut().enumerate() {
+            *place = self.hex()?;
             self.mark(gap(width, i))?;
         }
         Some(())
