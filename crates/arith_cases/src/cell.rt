@@ -27,9 +27,9 @@ pub(crate) fn cells<const N: usize>(text: &[u8]) -> Option<[u32; N]>
     requires { (N ≤ 50) × (length text.now ≡ 9 * N) }
 {
     let mut words = [0; N];
-    for i in 0..N {
+    for (i, (word, text)) in words.iter_mut().zip(text.chunks_exact(9)).enumerate() {
         let end = if i + 1 == N { b'\n' } else { b' ' };
-        words[i] = cell(&text[9 * i..9 * i + 9], 16, end)?;
+        *word = cell(text, 16, end)?;
     }
     Some(words)
 }

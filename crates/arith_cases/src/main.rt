@@ -36,7 +36,7 @@ fn fused_case(a: u32, b: u32, c: u32, recorded: u32) -> Case<3> {
 }
 
 fn roots(input: &mut impl Read) -> Option<Tally<1>> {
-    let mut tally = Tally::nothing_yet();
+    let mut tally = Tally::default();
     for _ in 0..record::count(input, b"roots    ")? {
         let [x, recorded]: [u32; 2] = record::line(input)?;
         tally = tally.with_case(root_case(x, recorded));
@@ -80,7 +80,7 @@ fn grid(input: &mut impl Read) -> Option<Tally<3>> {
         return None;
     }
     let patterns: [u32; PATTERNS] = record::line(input)?;
-    let mut tally = Tally::nothing_yet();
+    let mut tally = Tally::default();
     for a in &patterns {
         tally = with_grid_lines(tally, *a, &patterns, input)?;
     }
@@ -100,10 +100,7 @@ fn with_triples(tally: Tally<3>, input: &mut impl Read) -> Option<Tally<3>> {
 fn compared(input: &mut impl Read) -> Option<(Tally<1>, Tally<3>)> {
     let of_root = roots(input)?;
     let of_fused = with_triples(grid(input)?, input)?;
-    if !record::ended(input) {
-        return None;
-    }
-    Some((of_root, of_fused))
+    record::ended(input).then_some((of_root, of_fused))
 }
 
 // What cannot be written is lost: it is no case that differs.

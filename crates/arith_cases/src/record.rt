@@ -28,11 +28,7 @@ pub(crate) fn count(input: &mut impl Read, name: &[u8; 9]) -> Option<u32>
     if text[..9] != name[..] {
         return None;
     }
-    let n = cell::cell(&text[9..], 10, b'\n')?;
-    if n == 0 {
-        return None;
-    }
-    Some(n)
+    cell::cell(&text[9..], 10, b'\n').filter(|n| *n > 0)
 }
 
 // Whether nothing is left. A read that fails is no end.

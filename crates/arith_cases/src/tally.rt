@@ -31,8 +31,8 @@ pub(crate) struct Tally<const N: usize> {
     pub first: Option<Case<N>>,
 }
 
-impl<const N: usize> Tally<N> {
-    pub(crate) fn nothing_yet() -> Self
+impl<const N: usize> Default for Tally<N> {
+    fn default() -> Self
         ensures { result ≡ nothing_yet }
     {
         Tally {
@@ -41,7 +41,9 @@ impl<const N: usize> Tally<N> {
             first: None,
         }
     }
+}
 
+impl<const N: usize> Tally<N> {
     // The tally with one case more. Counts stop at the greatest number, so that a count of differences
     // never comes back to 0.
     pub(crate) fn with_case(self, case: Case<N>) -> Self

@@ -49,7 +49,8 @@ impl<'a> Text<'a> {
     }
 }
 
-// The last digits of a number, as many as there are places. The lowest is the last.
+// The last digits of a number, as many as there are places. The lowest is the last. By index: a proof
+// does not know what is stored through a reversed `iter_mut`.
 fn fill_digits(places: &mut [u8], base: usize, n: usize)
     requires { (0 < base) × (base ≤ 16) }
     ensures { places.new ≡ digits base (length places.old) n }
