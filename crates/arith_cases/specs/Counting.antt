@@ -1,25 +1,27 @@
 -- A tally, and what one case adds to it. Definitions only.
-use Rattle.std.specs.Prelude.{ℕ, ◌+◌, true, false, cond, eqb, ltb}
+use Rattle.std.specs.Prelude.{ℕ, ◌+◌, cond, eqb, ltb, Option, Some, None}
+use Rattle.arith_cases.specs.declared.tally.Case.{Case}
 use Rattle.arith_cases.specs.declared.tally.Tally.{Tally}
-
-abbrev pub nothing_yet : Tally
-nothing_yet = record { reads = true; count = 0; differ = 0; a = 0; b = 0; c = 0; made = 0; recorded = 0 }
-
-abbrev pub unread : Tally
-unread = record { reads = false; count = 0; differ = 0; a = 0; b = 0; c = 0; made = 0; recorded = 0 }
 
 -- counts stop at the greatest number
 abbrev pub one_more : ℕ → ℕ
 one_more n = cond (ltb n 0xffff_ffff_ffff_ffff) (n + 1) n
 
-abbrev pub same : Tally → Tally
-same t = record { reads = t.reads; count = one_more t.count; differ = t.differ; a = t.a; b = t.b; c = t.c; made = t.made; recorded = t.recorded }
+-- the case that is kept: the first
+abbrev pub kept : {A : Type 0} → Option A → A → A
+kept (Some a) b = a
+kept None b = b
 
--- a case that differs; only the first is kept
-abbrev pub different : Tally → ℕ → ℕ → ℕ → ℕ → ℕ → Tally
-different t a b c made recorded =
-    let first = eqb t.differ 0 in
-    record { reads = t.reads; count = one_more t.count; differ = one_more t.differ; a = cond first a t.a; b = cond first b t.b; c = cond first c t.c; made = cond first made t.made; recorded = cond first recorded t.recorded }
+module _ {n : ℕ} where
+  abbrev pub nothing_yet : Tally n
+  nothing_yet = record { count = 0; differ = 0; first = None }
 
-abbrev pub compared : Tally → ℕ → ℕ → ℕ → ℕ → ℕ → Tally
-compared t a b c made recorded = cond (eqb made recorded) (same t) (different t a b c made recorded)
+  abbrev pub same : Tally n → Tally n
+  same t = record { count = one_more t.count; differ = t.differ; first = t.first }
+
+  -- a case that differs; only the first is kept
+  abbrev pub different : Tally n → Case n → Tally n
+  different t c = record { count = one_more t.count; differ = one_more t.differ; first = Some (kept t.first c) }
+
+  abbrev pub compared : Tally n → Case n → Tally n
+  compared t c = cond (eqb c.made c.recorded) (same t) (different t c)

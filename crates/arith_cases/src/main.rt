@@ -7,147 +7,106 @@ mod record;
 mod report;
 mod tally;
 
-use tally::Tally;
+use std::io::Read;
+use tally::{Case, Tally};
 
 // How many patterns the grid has, and so the cells of the record's longest line.
 const PATTERNS: usize = 50;
 
-// The tally with the root of one pattern compared.
-fn with_root(t: Tally, x: u32, recorded: u32) -> Tally {
+fn root_case(x: u32, recorded: u32) -> Case<1> {
     let made = patterns::pattern(arith::root(patterns::float(x)));
-    tally::with_case(t, x, 0, 0, made, recorded)
+    Case {
+        of: [x],
+        made,
+        recorded,
+    }
 }
 
-// The tally with one triple compared.
-fn with_fused(t: Tally, a: u32, b: u32, c: u32, recorded: u32) -> Tally {
+fn fused_case(a: u32, b: u32, c: u32, recorded: u32) -> Case<3> {
     let made = patterns::pattern(arith::fused(
         patterns::float(a),
         patterns::float(b),
         patterns::float(c),
     ));
-    tally::with_case(t, a, b, c, made, recorded)
-}
-
-fn with_root_line(t: Tally) -> Tally {
-    let mut words = [0u32; 2];
-    if record::line(&mut words) {
-        with_root(t, words[0], words[1])
-    } else {
-        tally::no_record()
+    Case {
+        of: [a, b, c],
+        made,
+        recorded,
     }
 }
 
-fn with_triple_line(t: Tally) -> Tally {
-    let mut words = [0u32; 4];
-    if record::line(&mut words) {
-        with_fused(t, words[0], words[1], words[2], words[3])
-    } else {
-        tally::no_record()
+fn roots(input: &mut impl Read) -> Option<Tally<1>> {
+    let mut tally = Tally::default();
+    for _ in 0..record::count(input, b"roots    ")? {
+        let [x, recorded]: [u32; 2] = record::line(input)?;
+        tally = tally.with_case(root_case(x, recorded));
     }
+    Some(tally)
 }
 
 // A line of the grid: the results at a, b and each pattern.
-fn with_results(
-    t: Tally,
+fn with_grid_line(
+    tally: Tally<3>,
     a: u32,
     b: u32,
     patterns: &[u32; PATTERNS],
-    results: &[u32; PATTERNS],
-) -> Tally {
-    let mut out = t;
-    let mut k = 0;
-    while k < PATTERNS {
-        out = with_fused(out, a, b, patterns[k], results[k]);
-        k += 1;
+    input: &mut impl Read,
+) -> Option<Tally<3>> {
+    let mut tally = tally;
+    let results: [u32; PATTERNS] = record::line(input)?;
+    for (c, recorded) in patterns.iter().zip(&results) {
+        tally = tally.with_case(fused_case(a, b, *c, *recorded));
     }
-    out
+    Some(tally)
 }
 
-fn with_grid_line(t: Tally, a: u32, b: u32, patterns: &[u32; PATTERNS]) -> Tally {
-    let mut results = [0u32; PATTERNS];
-    if record::line(&mut results) {
-        with_results(t, a, b, patterns, &results)
-    } else {
-        tally::no_record()
+// The lines of the grid at one pattern.
+fn with_grid_lines(
+    tally: Tally<3>,
+    a: u32,
+    patterns: &[u32; PATTERNS],
+    input: &mut impl Read,
+) -> Option<Tally<3>> {
+    let mut tally = tally;
+    for b in patterns {
+        tally = with_grid_line(tally, a, *b, patterns, input)?;
     }
-}
-
-fn root_lines(n: u32) -> Tally {
-    let mut out = tally::nothing_yet();
-    let mut left = n;
-    while left > 0 && out.reads {
-        out = with_root_line(out);
-        left -= 1;
-    }
-    out
-}
-
-fn with_triple_lines(t: Tally, n: u32) -> Tally {
-    let mut out = t;
-    let mut left = n;
-    while left > 0 && out.reads {
-        out = with_triple_line(out);
-        left -= 1;
-    }
-    out
+    Some(tally)
 }
 
 // The lines of every pair of patterns, in their order.
-fn grid_lines(patterns: &[u32; PATTERNS]) -> Tally {
-    let mut out = tally::nothing_yet();
-    let mut pair = 0;
-    while pair < PATTERNS * PATTERNS && out.reads {
-        let a = patterns[pair / PATTERNS];
-        let b = patterns[pair % PATTERNS];
-        out = with_grid_line(out, a, b, patterns);
-        pair += 1;
+fn grid(input: &mut impl Read) -> Option<Tally<3>> {
+    if record::count(input, b"patterns ")? as usize != PATTERNS {
+        return None;
     }
-    out
+    let patterns: [u32; PATTERNS] = record::line(input)?;
+    let mut tally = Tally::default();
+    for a in &patterns {
+        tally = with_grid_lines(tally, *a, &patterns, input)?;
+    }
+    Some(tally)
 }
 
-fn roots() -> Tally {
-    let n = record::count(b"roots    ");
-    if n == 0 {
-        return tally::no_record();
+fn with_triples(tally: Tally<3>, input: &mut impl Read) -> Option<Tally<3>> {
+    let mut tally = tally;
+    for _ in 0..record::count(input, b"triples  ")? {
+        let [a, b, c, recorded]: [u32; 4] = record::line(input)?;
+        tally = tally.with_case(fused_case(a, b, c, recorded));
     }
-    root_lines(n)
+    Some(tally)
 }
 
-fn grid() -> Tally {
-    let n = record::count(b"patterns ");
-    if n as usize != PATTERNS {
-        return tally::no_record();
-    }
-    let mut patterns = [0u32; PATTERNS];
-    if record::line(&mut patterns) {
-        grid_lines(&patterns)
-    } else {
-        tally::no_record()
-    }
+// The whole record, with nothing after it.
+fn compared(input: &mut impl Read) -> Option<(Tally<1>, Tally<3>)> {
+    let of_root = roots(input)?;
+    let of_fused = with_triples(grid(input)?, input)?;
+    record::ended(input).then_some((of_root, of_fused))
 }
 
-fn with_triples(t: Tally) -> Tally {
-    let n = record::count(b"triples  ");
-    if n == 0 {
-        return tally::no_record();
-    }
-    with_triple_lines(t, n)
-}
-
-// Whether each of the parts read.
-fn all_read(of_root: Tally, of_fused: Tally) -> bool {
-    if !of_root.reads {
-        return false;
-    }
-    of_fused.reads
-}
-
+// What cannot be written is lost: it is no case that differs.
 fn main(rt: HostRuntime) {
-    let of_root = roots();
-    let of_fused = with_triples(grid());
-    if record::ended(all_read(of_root, of_fused), rt.stdin()) {
-        report::report(of_root, of_fused);
-    } else {
-        report::refuse();
-    }
+    let _ = match compared(&mut rt.stdin()) {
+        Some((of_root, of_fused)) => report::report(&rt, &of_root, &of_fused),
+        None => println!(rt; "the record does not read"),
+    };
 }

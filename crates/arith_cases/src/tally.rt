@@ -1,79 +1,62 @@
 // What was compared so far.
 ghost use Rattle.std.specs.Prelude.{◌≡◌};
-ghost use Rattle.arith_cases.specs.Counting.{nothing_yet, unread, one_more, same, compared};
+ghost use Rattle.arith_cases.specs.Counting.{nothing_yet, compared};
 
-// How many cases were compared, how many differ, and the first that does: up to three numbers that
-// tell the case, what was made of it and what the record has. Where the record does not read the
-// rest says nothing.
+use std::fmt;
+
+// A case: the numbers that tell it, what was made of them and what the record has.
 #[derive(Clone, Copy)]
-pub(crate) struct Tally {
-    pub reads: bool,
-    pub count: u64,
-    pub differ: u64,
-    pub a: u32,
-    pub b: u32,
-    pub c: u32,
+pub(crate) struct Case<const N: usize> {
+    pub of: [u32; N],
     pub made: u32,
     pub recorded: u32,
 }
 
-pub(crate) fn nothing_yet() -> Tally
-    ensures { result ≡ nothing_yet }
-{
-    Tally {
-        reads: true,
-        count: 0,
-        differ: 0,
-        a: 0,
-        b: 0,
-        c: 0,
-        made: 0,
-        recorded: 0,
+impl<const N: usize> fmt::Display for Case<N> {
+    fn fmt<W: fmt::Write>(&self, f: &mut fmt::Formatter<W>) -> fmt::Result {
+        for x in &self.of {
+            write!(f, "{x:08x} ")?;
+        }
+        let made = self.made;
+        let recorded = self.recorded;
+        write!(f, "is {made:08x}, not {recorded:08x}")
     }
 }
 
-pub(crate) fn no_record() -> Tally
-    ensures { result ≡ unread }
-{
-    let mut out = nothing_yet();
-    out.reads = false;
-    out
+// How many cases were compared, how many differ, and the first that does.
+#[derive(Clone, Copy)]
+pub(crate) struct Tally<const N: usize> {
+    pub count: u64,
+    pub differ: u64,
+    pub first: Option<Case<N>>,
 }
 
-// One more, and no more at the greatest number: a count of differences never comes back to 0.
-fn one_more(n: u64) -> u64
-    ensures { result ≡ one_more n }
-{
-    if n < u64::MAX {
-        return n + 1;
+impl<const N: usize> Default for Tally<N> {
+    fn default() -> Self
+        ensures { result ≡ nothing_yet }
+    {
+        Tally {
+            count: 0,
+            differ: 0,
+            first: None,
+        }
     }
-    n
 }
 
-pub(crate) fn with_same(t: Tally) -> Tally
-    ensures { result ≡ same t }
-{
-    let mut out = t;
-    out.count = one_more(t.count);
-    out
-}
-
-// The tally with one case more.
-pub(crate) fn with_case(t: Tally, a: u32, b: u32, c: u32, made: u32, recorded: u32) -> Tally
-    ensures { result ≡ compared t a b c made recorded }
-{
-    let mut out = with_same(t);
-    if made == recorded {
-        return out;
+impl<const N: usize> Tally<N> {
+    // The tally with one case more. Counts stop at the greatest number, so that a count of differences
+    // never comes back to 0.
+    pub(crate) fn with_case(self, case: Case<N>) -> Self
+        ensures { result ≡ compared self.entry case.entry }
+    {
+        let count = self.count.saturating_add(1);
+        if case.made == case.recorded {
+            return Tally { count, ..self };
+        }
+        Tally {
+            count,
+            differ: self.differ.saturating_add(1),
+            first: self.first.or(Some(case)),
+        }
     }
-    out.differ = one_more(t.differ);
-    if t.differ > 0 {
-        return out;
-    }
-    out.a = a;
-    out.b = b;
-    out.c = c;
-    out.made = made;
-    out.recorded = recorded;
-    out
 }

@@ -70,12 +70,16 @@ fn change_by(change: Change, counts: Counts, by: Vec3, lists: &mut Lists) -> (An
             (answer, NOTHING)
         }
         Change::Centroid => {
-            let found = mesh::stored::centroid(counts, vertices, normals, uvs, indices);
-            (found.answer, found.centroid)
+            match mesh::stored::centroid(counts, vertices, normals, uvs, indices) {
+                Ok(found) => (Ok(found.counts), found.centroid),
+                Err(why) => (Err(why), NOTHING),
+            }
         }
         Change::UvCentroid => {
-            let found = mesh::stored::uv_centroid(counts, vertices, normals, uvs, indices);
-            (found.answer, in_two(found.centroid))
+            match mesh::stored::uv_centroid(counts, vertices, normals, uvs, indices) {
+                Ok(found) => (Ok(found.counts), in_two(found.centroid)),
+                Err(why) => (Err(why), NOTHING),
+            }
         }
     }
 }

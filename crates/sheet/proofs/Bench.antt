@@ -1,6 +1,5 @@
 -- The scope's whole case, read, answered and written, and the ends of each format, by computation; P1 to P9 are rows of docs/TRACE.md. Assumes nothing.
 use mathlib.Core.Path.{◌≡◌, refl, sym, ap, ◌∙◌}
-use mathlib.Core.Bool.{false}
 use mathlib.Core.List.{List, [], ◌∷◌, ◌++◌, map}
 use Prim.Native.Nat.{ℕ}
 use native.Mathlib.Omega.{arith}
@@ -12,11 +11,12 @@ use Rattle.face.specs.Triangles.{counts}
 use Rattle.buffers.specs.Laying.{four}
 use Rattle.buffers.specs.Faces.{quad_mesh, hexagon_mesh}
 use Rattle.column.specs.Column.{column_names, mesh_of}
+use Rattle.std.specs.Prelude.{false, Some, None}
 use Rattle.sheet.specs.declared.reading.Sheet.{Sheet}
 use Rattle.patterns.specs.Digits.{digit_value}
 use Rattle.sheet.specs.Digits.{bytes, hex_digits, decimal, digits, digit_count, divisions}
 use Rattle.sheet.specs.Sheets.{numbers_text, sheet_text, Lawful}
-use Rattle.sheet.specs.Readers.{mark_of, word_of, digit_at, hex_from, decimal_from, decimal_of, count_of, section_of, numbers_from, numbers_of, block_of, head_of, sheet_of, reading, read_as}
+use Rattle.sheet.specs.Readers.{mark_of, word_of, digit_at, hex_from, decimal_from, decimal_of, count_of, section_of, numbers_from, numbers_of, block_of, head_of, sheet_of, reading}
 use Rattle.patterns.specs.Patterns.{bits_of}
 use Rattle.sheet.specs.Meshes.{float_lines, index_lines, mesh_text, refusal_text}
 use Rattle.sheet.specs.Answering.{column_of, lists_of, column_text, reading_text, answer_text}
@@ -51,18 +51,18 @@ wall-lawful =
       corners = record { long = refl; small = tt; unused = refl };
     }
 
-pub wall-read : reading wall_text ≡ read_as wall
+pub wall-read : reading wall_text ≡ Some wall
 wall-read = ap reading (sym wall-text) ∙ complete wall wall-lawful
 
 -- the last newline missing, a byte after it, a leading zero in a count, a carriage return
 pub near-misses :
-    map (λ text. (reading text).good)
+    map reading
     (take 70 wall_text
     ∷ (wall_text ++ (10 ∷ []))
     ∷ bytes "column 01\n40000000 1\nsides 0\ncaps 0\n"
     ∷ bytes "column 1\r\n40000000 1\nsides 0\ncaps 0\n"
     ∷ [])
-    ≡ false ∷ false ∷ false ∷ false ∷ []
+    ≡ None ∷ None ∷ None ∷ None ∷ []
 unfolding digit_value mark_of word_of digit_at hex_from decimal_from decimal_of count_of section_of numbers_from numbers_of block_of head_of sheet_of reading
 near-misses = refl
 

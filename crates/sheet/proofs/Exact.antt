@@ -9,11 +9,13 @@ use borrow.Author.Tests.{le-leb, eq-eqb, eqb-true, leb-true}
 use lib.Dec.{leb, eqb}
 use lib.ListN.{length, take, drop, replicate, length-append, length-drop, length-replicate, take-append-drop}
 use lib.Seq.{append_snoc, length-take-le, take_at, drop_at}
+use Rattle.std.specs.Prelude.{Some, None}
 use Rattle.sheet.specs.declared.reading.Sheet.{Sheet}
-use Rattle.sheet.specs.declared.reading.Reading.{Reading}
+use Rattle.sheet.specs.declared.reading.Head.{Head}
+use Rattle.sheet.specs.declared.reading_lines.Block.{Block}
 use Rattle.sheet.specs.Digits.{newline, space, hex_digits, digits, decimal, gap, count_text, heading}
 use Rattle.sheet.specs.Sheets.{column_word, sides_word, caps_word, numbers_text, block_text, head_text, cap_lines, sheet_text, InU32, AllInU32, FirstUsed, Lawful}
-use Rattle.sheet.specs.Readers.{Taken, taken, none, next, only_if, mark_of, word_of, hex_from, hex_of, decimal_of, count_of, section_of, numbers_from, numbers_of, Block, block_of, HeadLine, head_of, sheet_with, are_caps, sheet_of, reading, whole, read_as}
+use Rattle.sheet.specs.Readers.{Taken, taken, none, next, only_if, mark_of, word_of, hex_from, hex_of, decimal_of, count_of, section_of, numbers_from, numbers_of, block_of, head_of, sheet_with, are_caps, sheet_of, reading, whole}
 use Rattle.sheet.proofs.Formats.{not_none, only-if-inv, next-inv, taken-value, taken-rest, hex-written, hex-read, decimal-written, decimal-read}
 
 abbrev Holds : Bool → Type 0
@@ -137,23 +139,23 @@ module _ (name : List ℕ) (width places : ℕ) (room : width * 6 ≤ places) wh
       let y : i.0 ++ drop m (replicate places 0) ≡ ys = ap (λ (l : List ℕ). l ++ drop m (replicate places 0)) (sym i.1) ∙ taken-value k.3 in
       subst (Listed m a c) y (first-used places m i.0 i.2 (omega arith) i.3, q ∙ ap (λ (l : List ℕ). numbers_text width 0 l ++ c) (sym t))
 
-  abbrev Blocked : List ℕ → Block → List ℕ → Type 0
-  Blocked s b r = (b.count ≤ 6) × FirstUsed places (width * b.count) b.numbers × (s ≡ block_text name width b.count b.numbers ++ r)
+  abbrev Blocked : List ℕ → Block places → List ℕ → Type 0
+  Blocked s b r = (b.lines ≤ 6) × FirstUsed places (width * b.lines) b.numbers × (s ≡ block_text name width b.lines b.numbers ++ r)
 
-  block-sound : (s : List ℕ) (b : Block) (r : List ℕ) → block_of name width (replicate places 0) s ≡ taken b r → Blocked s b r
+  block-sound : (s : List ℕ) (b : Block places) (r : List ℕ) → block_of name width places s ≡ taken b r → Blocked s b r
   unfolding block_of
   block-sound s b r e =
-      let g = next-inv (section_of name s) (λ n a. only_if (leb n 6) (next (numbers_of width (width * n) (replicate places 0) a) (λ xs c. taken (record { count = n; numbers = xs }) c))) b r e in
+      let g = next-inv (section_of name s) (λ n a. only_if (leb n 6) (next (numbers_of width (width * n) (replicate places 0) a) (λ xs c. taken (record { lines = n; numbers = xs }) c))) b r e in
       let n : ℕ = g.0 in
-      let v = only-if-inv (leb n 6) (next (numbers_of width (width * n) (replicate places 0) g.1) (λ xs c. taken (record { count = n; numbers = xs }) c)) b r g.3 in
-      let h = next-inv (numbers_of width (width * n) (replicate places 0) g.1) (λ xs c. taken (record { count = n; numbers = xs }) c) b r v.1 in
+      let v = only-if-inv (leb n 6) (next (numbers_of width (width * n) (replicate places 0) g.1) (λ xs c. taken (record { lines = n; numbers = xs }) c)) b r g.3 in
+      let h = next-inv (numbers_of width (width * n) (replicate places 0) g.1) (λ xs c. taken (record { lines = n; numbers = xs }) c) b r v.1 in
       let k : n ≤ 6 = leb-true n 6 v.0 in
       let l = list-sound n g.1 h.0 h.1 k h.2 in
       let p = section-sound name s n g.1 g.2 in
       let q : s ≡ block_text name width n h.0 ++ h.1 = p.1 ∙ (ap (λ (y : List ℕ). heading name n ++ y) l.1 ∙ sym (append_assoc (heading name n) (numbers_text width 0 (take (width * n) h.0)) h.1)) in
       subst₂ (Blocked s) (taken-value h.3) (taken-rest h.3) (k, l.0, q)
 
-  block-exact : (n : ℕ) (xs t : List ℕ) → n ≤ 6 → FirstUsed places (width * n) xs → block_of name width (replicate places 0) (block_text name width n xs ++ t) ≡ taken (record { count = n; numbers = xs }) t
+  block-exact : (n : ℕ) (xs t : List ℕ) → n ≤ 6 → FirstUsed places (width * n) xs → block_of name width places (block_text name width n xs ++ t) ≡ taken (record { lines = n; numbers = xs }) t
   unfolding block_of numbers_of
   block-exact n xs t h f =
       let w : width * n ≤ width * 6 = mul-le-mul_left width h in
@@ -162,16 +164,16 @@ module _ (name : List ℕ) (width places : ℕ) (room : width * 6 ≤ places) wh
       rw (append_assoc (heading name n) (numbers_text width 0 (take (width * n) xs)) t, section-exact name n (numbers_text width 0 (take (width * n) xs) ++ t) (omega arith), le-leb n 6 h, i, sym f.unused, take-append-drop (width * n) xs)
 
 -- ---- the column's lines
-abbrev Headed : List ℕ → HeadLine → List ℕ → Type 0
+abbrev Headed : List ℕ → Head → List ℕ → Type 0
 Headed s h r = InU32 h.height × InU32 h.subdivisions × (s ≡ head_text h.height h.subdivisions ++ r)
 
-abbrev after_space : ℕ → List ℕ → Taken HeadLine
+abbrev after_space : ℕ → List ℕ → Taken Head
 after_space h c = next (count_of c) (λ d e. taken (record { height = h; subdivisions = d }) e)
 
-abbrev after_column : List ℕ → Taken HeadLine
+abbrev after_column : List ℕ → Taken Head
 after_column a = next (hex_of a) (λ h b. next (mark_of space b) (λ _ c. after_space h c))
 
-abbrev after_name : ℕ → List ℕ → Taken HeadLine
+abbrev after_name : ℕ → List ℕ → Taken Head
 after_name n a = only_if (eqb n 1) (after_column a)
 
 head-exact : (h d : ℕ) (t : List ℕ) → InU32 h → InU32 d → head_of (head_text h d ++ t) ≡ taken (record { height = h; subdivisions = d }) t
@@ -187,7 +189,7 @@ head-exact h d t f g =
     ∙ (ap (λ (z : Taken Unit). next z (λ _ c. after_space h c)) (mark-written space rest)
     ∙ ap (λ (z : Taken ℕ). next z (λ k e. taken (record { height = h; subdivisions = k }) e)) (count-exact d t g)))))
 
-head-sound : (s : List ℕ) (h : HeadLine) (r : List ℕ) → head_of s ≡ taken h r → Headed s h r
+head-sound : (s : List ℕ) (h : Head) (r : List ℕ) → head_of s ≡ taken h r → Headed s h r
 unfolding head_of
 head-sound s h r e =
     let a = next-inv (section_of column_word s) after_name h r e in
@@ -225,27 +227,27 @@ caps-lines n e = go (eqb n 6) refl (eqb n 0) refl e
     go false p true q h = sym (eqb-true n 0 q)
     go false p false q h = absurd (no_truth h)
 
-abbrev after_sides : HeadLine → Block → List ℕ → Taken Sheet
-after_sides h sides b = next (block_of caps_word 2 (replicate 12 0) b) (λ caps c. only_if (are_caps caps.count) (taken (sheet_with h sides caps) c))
+abbrev after_sides : Head → Block 24 → List ℕ → Taken Sheet
+after_sides h sides b = next (block_of caps_word 2 12 b) (λ caps c. only_if (are_caps caps.lines) (taken (sheet_with h sides caps) c))
 
-abbrev after_head : HeadLine → List ℕ → Taken Sheet
-after_head h a = next (block_of sides_word 4 (replicate 24 0) a) (λ sides b. after_sides h sides b)
+abbrev after_head : Head → List ℕ → Taken Sheet
+after_head h a = next (block_of sides_word 4 24 a) (λ sides b. after_sides h sides b)
 
 sheet-exact : (s : Sheet) (t : List ℕ) → Lawful s → sheet_of (sheet_text s ++ t) ≡ taken s t
 unfolding sheet_of
 sheet-exact s t l =
     let n : ℕ = cap_lines s.caps in
-    let h : HeadLine = record { height = s.height; subdivisions = s.subdivisions } in
-    let sides : Block = record { count = s.sides; numbers = s.pairs } in
-    let caps : Block = record { count = n; numbers = s.corners } in
+    let h : Head = record { height = s.height; subdivisions = s.subdivisions } in
+    let sides : Block 24 = record { lines = s.sides; numbers = s.pairs } in
+    let caps : Block 12 = record { lines = n; numbers = s.corners } in
     let a : List ℕ = head_text s.height s.subdivisions in
     let b : List ℕ = block_text sides_word 4 s.sides s.pairs in
     let c : List ℕ = block_text caps_word 2 n s.corners in
     ap sheet_of (append_assoc a (b ++ c) t)
-    ∙ (ap (λ (z : Taken HeadLine). next z after_head) (head-exact s.height s.subdivisions ((b ++ c) ++ t) l.height l.subdivisions)
+    ∙ (ap (λ (z : Taken Head). next z after_head) (head-exact s.height s.subdivisions ((b ++ c) ++ t) l.height l.subdivisions)
     ∙ (ap (after_head h) (append_assoc b c t)
-    ∙ (ap (λ (z : Taken Block). next z (λ x y. after_sides h x y)) (block-exact sides_word 4 24 (omega arith) s.sides s.pairs (c ++ t) l.sides l.pairs)
-    ∙ (ap (λ (z : Taken Block). next z (λ x y. only_if (are_caps x.count) (taken (sheet_with h sides x) y))) (block-exact caps_word 2 12 (omega arith) n s.corners t (caps-most s.caps) l.corners)
+    ∙ (ap (λ (z : Taken (Block 24)). next z (λ x y. after_sides h x y)) (block-exact sides_word 4 24 (omega arith) s.sides s.pairs (c ++ t) l.sides l.pairs)
+    ∙ (ap (λ (z : Taken (Block 12)). next z (λ x y. only_if (are_caps x.lines) (taken (sheet_with h sides x) y))) (block-exact caps_word 2 12 (omega arith) n s.corners t (caps-most s.caps) l.corners)
     ∙ rw (caps-allowed s.caps, caps-back s.caps)))))
 
 abbrev Sheeted : List ℕ → Sheet → List ℕ → Type 0
@@ -255,23 +257,23 @@ sheet-sound : (s : List ℕ) (b : Sheet) (r : List ℕ) → sheet_of s ≡ taken
 unfolding sheet_of
 sheet-sound s b r e =
     let g = next-inv (head_of s) after_head b r e in
-    let h : HeadLine = g.0 in
-    let p = next-inv (block_of sides_word 4 (replicate 24 0) g.1) (λ x y. after_sides h x y) b r g.3 in
-    let sides : Block = p.0 in
-    let q = next-inv (block_of caps_word 2 (replicate 12 0) p.1) (λ x y. only_if (are_caps x.count) (taken (sheet_with h sides x) y)) b r p.3 in
-    let caps : Block = q.0 in
-    let v = only-if-inv (are_caps caps.count) (taken (sheet_with h sides caps) q.1) b r q.3 in
+    let h : Head = g.0 in
+    let p = next-inv (block_of sides_word 4 24 g.1) (λ x y. after_sides h x y) b r g.3 in
+    let sides : Block 24 = p.0 in
+    let q = next-inv (block_of caps_word 2 12 p.1) (λ x y. only_if (are_caps x.lines) (taken (sheet_with h sides x) y)) b r p.3 in
+    let caps : Block 12 = q.0 in
+    let v = only-if-inv (are_caps caps.lines) (taken (sheet_with h sides caps) q.1) b r q.3 in
     let x = head-sound s h g.1 g.2 in
     let y = block-sound sides_word 4 24 (omega arith) g.1 sides p.1 p.2 in
     let z = block-sound caps_word 2 12 (omega arith) p.1 caps q.1 q.2 in
-    let k = caps-lines caps.count v.0 in
+    let k = caps-lines caps.lines v.0 in
     let a : List ℕ = head_text h.height h.subdivisions in
-    let m : List ℕ = block_text sides_word 4 sides.count sides.numbers in
+    let m : List ℕ = block_text sides_word 4 sides.lines sides.numbers in
     let c : ℕ → List ℕ = λ n. block_text caps_word 2 n caps.numbers in
     let w : s ≡ sheet_text (sheet_with h sides caps) ++ q.1 =
     x.2
-    ∙ (ap (λ (l : List ℕ). a ++ l) (y.2 ∙ (ap (λ (l : List ℕ). m ++ l) (z.2 ∙ ap (λ (n : ℕ). c n ++ q.1) (sym k)) ∙ sym (append_assoc m (c (cap_lines (eqb caps.count 6))) q.1)))
-    ∙ sym (append_assoc a (m ++ c (cap_lines (eqb caps.count 6))) q.1))
+    ∙ (ap (λ (l : List ℕ). a ++ l) (y.2 ∙ (ap (λ (l : List ℕ). m ++ l) (z.2 ∙ ap (λ (n : ℕ). c n ++ q.1) (sym k)) ∙ sym (append_assoc m (c (cap_lines (eqb caps.lines 6))) q.1)))
+    ∙ sym (append_assoc a (m ++ c (cap_lines (eqb caps.lines 6))) q.1))
     in
     let o : Lawful (sheet_with h sides caps) =
     record {
@@ -285,23 +287,26 @@ sheet-sound s b r e =
     subst₂ (Sheeted s) (taken-value v.1) (taken-rest v.1) (o, w)
 
 -- ---- what `read` promises
-pub complete : (s : Sheet) → Lawful s → reading (sheet_text s) ≡ read_as s
+pub complete : (s : Sheet) → Lawful s → reading (sheet_text s) ≡ Some s
 unfolding reading
 complete s l = ap whole (ap sheet_of (sym (append-nil (sheet_text s))) ∙ sheet-exact s [] l)
 
-pub sound : (bytes : List ℕ) → (reading bytes).good ≡ true → Lawful (reading bytes).sheet × (bytes ≡ sheet_text (reading bytes).sheet)
+pub sound : (bytes : List ℕ) (s : Sheet) → reading bytes ≡ Some s → Lawful s × (bytes ≡ sheet_text s)
 unfolding reading
-sound bytes e = go (sheet_of bytes) refl e
+sound bytes s e = go (sheet_of bytes) refl e
   where
-    go : (t : Taken Sheet) → sheet_of bytes ≡ t → (whole t).good ≡ true → Lawful (whole t).sheet × (bytes ≡ sheet_text (whole t).sheet)
-    go none p h = absurd (no_truth h)
-    go (taken b []) p h = let x = sheet-sound bytes b [] p in (x.0, x.1 ∙ append-nil (sheet_text b))
-    go (taken b (c ∷ r)) p h = absurd (no_truth h)
+    go : (t : Taken Sheet) → sheet_of bytes ≡ t → whole t ≡ Some s → Lawful s × (bytes ≡ sheet_text s)
+    go none p h = cc
+    go (taken b []) p h =
+        let x = sheet-sound bytes b [] p in
+        let same : b ≡ s = cc in
+        subst (λ (y : Sheet). Lawful y × (bytes ≡ sheet_text y)) same (x.0, x.1 ∙ append-nil (sheet_text b))
+    go (taken b (c ∷ r)) p h = cc
 
 -- what is not read is the text of no lawful sheet
-pub refused : (bytes : List ℕ) → (reading bytes).good ≡ false → (s : Sheet) → Lawful s → bytes ≡ sheet_text s → ⊥
-refused bytes e s l p = no_truth (sym e ∙ (ap (λ (b : List ℕ). (reading b).good) p ∙ ap (λ (r : Reading). r.good) (complete s l)))
+pub refused : (bytes : List ℕ) → reading bytes ≡ None → (s : Sheet) → Lawful s → bytes ≡ sheet_text s → ⊥
+refused bytes e s l p = let q : reading bytes ≡ Some s = ap reading p ∙ complete s l in cc
 
 -- two lawful sheets have two texts
 pub distinct : (s t : Sheet) → Lawful s → Lawful t → sheet_text s ≡ sheet_text t → s ≡ t
-distinct s t l m e = ap (λ (r : Reading). r.sheet) (sym (complete s l) ∙ (ap reading e ∙ complete t m))
+distinct s t l m e = let p : Some s ≡ Some t = sym (complete s l) ∙ (ap reading e ∙ complete t m) in cc

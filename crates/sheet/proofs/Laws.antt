@@ -6,7 +6,7 @@ use Prim.Native.Nat.{ℕ, zero, suc, ◌+◌, ◌*◌, ◌/◌, ◌%◌, ◌^◌
 use native.Mathlib.Nat.{add-suc, add-zero, mul-suc, mul-zero, pow-zero, pow-succ', mod-lt, div-add-mod', div-lt_iff_lt-mul, mul_comm, mul-add-mod_self_left}
 use native.Mathlib.Omega.{arith}
 use borrow.Author.Tests.{lt-ltb}
-use lib.Dec.{T, ltb, ltb→lt, nltb→le, leb}
+use lib.Dec.{T, ltb, ltb→lt, nltb→le}
 use lib.ListN.{length, get_or, take, drop, length-append, get_or-append}
 use lib.Seq.{take-append_seam, length-take-le}
 use Rattle.face.specs.Lists.{chain}
@@ -16,7 +16,6 @@ use Rattle.buffers.specs.Laying.{Buffers}
 use Rattle.patterns.specs.Digits.{digit_value}
 use Rattle.sheet.specs.Digits.{digit, digits, divisions, digit_count, hex_digits, decimal, spelt, gap}
 use Rattle.sheet.specs.Meshes.{index_word, index_lines, mesh_text, refusal_text, Written}
-use Rattle.sheet.specs.Answering.{answer_text, Answered}
 use Rattle.sheet.proofs.Formats.{value-of-digit}
 use Rattle.sheet.proofs.Numerals.{length_digits, count-within, count_most}
 use Rattle.sheet.proofs.Rooms.{length-index, length-mesh, length-refusal}
@@ -135,10 +134,3 @@ written-within false text old new r w = let e : r ≡ 0 = w.count in omega arith
 
 pub written-counts : (ok : Bool) (text old new : List ℕ) (r : ℕ) → Written ok text old new r → r ≡ length (take r new)
 written-counts ok text old new r w = sym (length-take-le r new (written-within ok text old new r w))
-
--- ---- what callers cite of an answer
-pub answer-within : (bytes old new : List ℕ) (r : ℕ) → Answered bytes old new r → r ≤ length new
-answer-within bytes old = written-within (leb (length (answer_text bytes)) (length old)) (answer_text bytes) old
-
-pub answer-counts : (bytes old new : List ℕ) (r : ℕ) → Answered bytes old new r → r ≡ length (take r new)
-answer-counts bytes old = written-counts (leb (length (answer_text bytes)) (length old)) (answer_text bytes) old

@@ -7,6 +7,7 @@ pub mod Longest
 pub mod Overlong
 pub mod Most
 pub mod Printing
+mod Arrays
 mod Alike
 mod Steps
 mod Formats

@@ -6,6 +6,7 @@ use Prim.Native.Nat.{ℕ, ◌+◌, ◌*◌, ◌≤◌, ◌<◌}
 use native.Mathlib.Omega.{arith}
 use lib.ListN.{length, take, length-append}
 use lib.Seq.{length-take-le}
+use Rattle.std.specs.Prelude.{Option, Some, None}
 use Rattle.sheet.specs.declared.reading.Sheet.{Sheet}
 use Rattle.sheet.specs.Digits.{decimal, digit_count}
 use Rattle.sheet.specs.Sheets.{sides_word, caps_word, numbers_text, block_text, head_text, cap_lines, sheet_text, InU32, FirstUsed, Lawful}
@@ -49,11 +50,11 @@ sheet-most s l =
     few false = omega arith
 
 -- so what is longer does not read
-pub long-unread : (bytes : List ℕ) → 368 < length bytes → (reading bytes).good ≡ false
-long-unread bytes h = go (reading bytes).good refl
+pub long-unread : (bytes : List ℕ) → 368 < length bytes → reading bytes ≡ None
+long-unread bytes h = go (reading bytes) refl
   where
-    go : (x : Bool) → (reading bytes).good ≡ x → x ≡ false
-    go true e =
-        let s = sound bytes e in
-        absurd (let k : length bytes ≤ 368 = rw s.1 (sheet-most (reading bytes).sheet s.0) in omega arith)
-    go false e = refl
+    go : (x : Option Sheet) → reading bytes ≡ x → x ≡ None
+    go (Some s) e =
+        let t = sound bytes s e in
+        absurd (let k : length bytes ≤ 368 = rw t.1 (sheet-most s t.0) in omega arith)
+    go None e = refl

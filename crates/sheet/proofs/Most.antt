@@ -15,9 +15,12 @@ use Rattle.face.specs.Triangles.{no_triangle}
 use Rattle.face.proofs.Laws.{Below}
 use Rattle.answer.specs.declared.answer.Buffer.TheVariants.{Vertices}
 use Rattle.answer.specs.declared.answer.Refusal.{Refusal}
-use Rattle.answer.specs.declared.answer.Refusal.TheVariants.{Room, Sheet}
+use Rattle.answer.specs.declared.answer.Refusal.TheVariants.{Room}
+use Rattle.answer.specs.declared.answer.Refusal.TheVariants as refusal
+use Rattle.std.specs.Prelude.{Option, Ok, Err}
+use Rattle.std.specs.declared.option.Option.TheVariants as optional
+use Rattle.sheet.specs.declared.reading.Sheet.{Sheet}
 use Rattle.answer.specs.Answers.{Answer}
-use Rattle.std.specs.Prelude.{Ok, Err}
 use Rattle.answer.specs.Answers.{code, told, given}
 use Rattle.answer.proofs.Laws.{coded}
 use Rattle.placement.specs.declared.options.Choice.{Choice}
@@ -35,7 +38,7 @@ use Rattle.column.proofs.Counts.{column-counts}
 use Rattle.column_builder.proofs.Whole.{column-own}
 use Rattle.sheet.specs.Readers.{reading}
 use Rattle.sheet.specs.Meshes.{mesh_text, refusal_text, Written}
-use Rattle.sheet.specs.Answering.{column_of, lists_of, printable, flat, text_of, text_for, column_text, answer_text, Answered, room}
+use Rattle.sheet.specs.Answering.{column_of, printable, flat, text_of, text_for, column_text, reading_text, answer_text, Answered, room}
 use Rattle.sheet.proofs.Numerals.{count-within}
 use Rattle.sheet.proofs.Rooms.{length-mesh, length-refusal}
 use Rattle.sheet.proofs.Laws.{index-lines-most}
@@ -122,16 +125,14 @@ column-most job ps cs = go (planned job (ls job ps cs)) refl
     go (Err e) p = refusal-fits e
     go (Ok c) p = done c (leb c.vertices.0 1024) p refl
 
-either-most : (x : Bool) (a b : List ℕ) → length a ≤ room → length b ≤ room → length (cond x a b) ≤ room
-either-most true a b p q = p
-either-most false a b p q = q
+reading-most : (r : Option Sheet) → length (reading_text r) ≤ room
+reading-most (optional.Some s) = column-most (column_of s) _ _
+reading-most optional.None = refusal-fits refusal.Sheet
 
 -- P7, P8, P9: of every input
 pub answer-most : (bytes : List ℕ) → length (answer_text bytes) ≤ room
 unfolding answer_text
-answer-most bytes =
-    let s = (reading bytes).sheet in
-    either-most (reading bytes).good (column_text (column_of s) (lists_of s)) (refusal_text (code Sheet)) (column-most (column_of s) _ _) (refusal-fits Sheet)
+answer-most bytes = reading-most (reading bytes)
 
 -- so with that room the whole answer is written
 pub answer-whole : (bytes old new : List ℕ) (r : ℕ) → room ≤ length old → Answered bytes old new r → Written true (answer_text bytes) old new r

@@ -1,16 +1,15 @@
 -- The digits of a number: how many there are, and that the last may be written first. Assumes nothing.
 use mathlib.Core.Path.{◌≡◌, refl, sym, ap, ◌∙◌}
 use mathlib.Core.Bool.{Bool, true, false, not, cond}
-use mathlib.Core.List.{List, [], ◌∷◌}
+use mathlib.Core.List.{List, [], ◌∷◌, ◌++◌, append_assoc}
 use Prim.Native.Nat.{ℕ, zero, suc, ◌+◌, ◌*◌, ◌/◌, ◌%◌, ◌-◌, ◌^◌, ◌≤◌, ◌<◌}
-use native.Mathlib.Nat.{pow-succ'}
+use native.Mathlib.Nat.{pow-succ', pow-le-pow_right}
 use native.Mathlib.Numerals.{add-one}
 use native.Mathlib.Omega.{arith}
 use borrow.Author.Tests.{lt-ltb, le-ltb}
 use lib.Dec.{T, ltb, ltb→lt, nltb→le}
-use lib.ListN.{length, set, length-append}
-use Rattle.buffers.specs.Laying.{laid}
-use Rattle.buffers.proofs.Laid.{laid-nothing, laid_one, laid-append, laid-comm}
+use lib.ListN.{length, set, drop, length-append, length-set}
+use lib.Seq.{drop-cons, drop-set-lt, get_or-set_same}
 use Rattle.sheet.specs.Digits.{digit, digits, divisions, digit_count}
 
 pub length_digits : (base w n : ℕ) → length (digits base w n) ≡ w
@@ -18,27 +17,14 @@ unfolding digits
 length_digits base zero n = refl
 length_digits base (suc w) n = length-append (digits base w (n / base)) (digit (n % base) ∷ []) ∙ rw (length_digits base w (n / base)) (add-one w)
 
--- the last digit written, and then those before it
-pub last-first : (l : List ℕ) (at base w n : ℕ) → laid (set l (at + w) (digit (n % base))) at (digits base w (n / base)) ≡ laid l at (digits base (suc w) n)
+-- of k digits that are left to write the last is written before those that are there, and the whole is the same
+pub digit-written : (base k n d : ℕ) (l whole : List ℕ) → 0 < k → k ≤ length l → d ≡ digit (n % base) → digits base k n ++ drop k l ≡ whole → digits base (k - 1) (n / base) ++ drop (k - 1) (set l (k - 1) d) ≡ whole
 unfolding digits
-last-first l at base w n =
-    let xs : List ℕ = digits base w (n / base) in
-    let d : List ℕ = digit (n % base) ∷ [] in
-    let e : length xs ≡ w = length_digits base w (n / base) in
-    ap (λ (k : List ℕ). laid k at xs) (sym (laid_one l (at + w) (digit (n % base))))
-    ∙ sym (laid-comm l at xs (at + w) d (omega arith))
-    ∙ ap (λ (k : ℕ). laid (laid l at xs) (at + k) d) (sym e)
-    ∙ laid-append l at xs d
-
--- of k digits that are left to write the last is written, and what they make is the same
-pub one_written : (l : List ℕ) (at base k n d : ℕ) (whole : List ℕ) → 0 < k → d ≡ digit (n % base) → laid l at (digits base k n) ≡ whole → laid (set l (at + (k - 1)) d) at (digits base (k - 1) (n / base)) ≡ whole
-one_written l at base zero n d whole h e w = absurd (omega arith)
-one_written l at base (suc k) n d whole h e w = let p : suc k - 1 ≡ k = omega arith in rw (p, e) (last-first l at base k n ∙ w)
-
--- nothing is left to write
-pub all-written : (l : List ℕ) (at base n : ℕ) → laid l at (digits base 0 n) ≡ l
-unfolding digits
-all-written l at base n = laid-nothing l at
+digit-written base zero n d l whole h r e w = absurd (omega arith)
+digit-written base (suc k) n d l whole h r e w =
+    let p : suc k - 1 ≡ k = omega arith in
+    rw (p, drop-cons (set l k d) k 0 (omega (arith, length-set l k d)), get_or-set_same l k d 0 (omega arith), drop-set-lt (suc k) l k d (omega arith), e)
+    (sym (append_assoc (digits base k (n / base)) (digit (n % base) ∷ []) (drop (suc k) l)) ∙ w)
 
 -- ---- how many digits a decimal has
 of_none : (k : ℕ) → divisions k 0 ≡ 1
@@ -78,6 +64,22 @@ count-within (suc k) n h = go (ltb n 10) (ltb→lt n 10) (nltb→le n 10) (count
         let e : digit_count n ≡ suc (digit_count (n / 10)) = count-more n (f tt) in
         let q : digit_count (n / 10) ≤ suc k = r (omega arith) in
         omega arith
+
+count-least : (k n : ℕ) → 10 ^ k ≤ n → suc k ≤ digit_count n
+count-least zero n h = go (ltb n 10) (ltb→lt n 10) (nltb→le n 10)
+  where
+    go : (x : Bool) → (T x → n < 10) → (T (not x) → 10 ≤ n) → 1 ≤ digit_count n
+    go true s f = let e : digit_count n ≡ 1 = count_small n (s tt) in omega arith
+    go false s f = let e : digit_count n ≡ suc (digit_count (n / 10)) = count-more n (f tt) in omega arith
+count-least (suc k) n h =
+    let p : 10 ^ suc k ≡ 10 * 10 ^ k = pow-succ' 10 k in
+    let q : 10 ^ 0 ≤ 10 ^ k = pow-le-pow_right {n = 10} (omega arith) {i = 0} {j = k} (omega arith) in
+    let e : digit_count n ≡ suc (digit_count (n / 10)) = count-more n (omega arith) in
+    omega (arith, count-least k (n / 10) (omega arith))
+
+-- between a power of ten and the next the count is the power's, and one more
+pub count-between : (k n : ℕ) → 10 ^ k ≤ n → n < 10 * 10 ^ k → k + 1 ≡ digit_count n
+count-between k n h g = omega (arith, count-least k n h, count-within k n (rw (pow-succ' 10 k) g))
 
 -- 64 bits are never more than twenty digits
 pub count_most : (n : ℕ) → n < 2 ^ 64 → digit_count n ≤ 20

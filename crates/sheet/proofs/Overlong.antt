@@ -1,6 +1,6 @@
 -- The first 369 bytes of an input decide its answer. Assumes nothing.
 use mathlib.Core.Path.{◌≡◌, sym, ap, ◌∙◌}
-use mathlib.Core.Bool.{Bool, true, false, not, cond}
+use mathlib.Core.Bool.{Bool, true, false, not}
 use mathlib.Core.List.{List}
 use Prim.Native.Nat.{ℕ, ◌≤◌, ◌<◌}
 use native.Mathlib.Omega.{arith}
@@ -9,16 +9,13 @@ use lib.ListN.{length, take}
 use lib.Seq.{length-take-le, take_all}
 use Rattle.answer.specs.declared.answer.Refusal.TheVariants.{Sheet}
 use Rattle.answer.specs.Answers.{code}
-use Rattle.sheet.specs.Readers.{reading}
 use Rattle.sheet.specs.Meshes.{refusal_text}
 use Rattle.sheet.proofs.Longest.{long-unread}
-use Rattle.sheet.specs.Answering.{column_of, lists_of, column_text, answer_text}
+use Rattle.sheet.specs.Answering.{reading_text, answer_text}
 
 pub overlong : (bytes : List ℕ) → 368 < length bytes → answer_text bytes ≡ refusal_text (code Sheet)
 unfolding answer_text
-overlong bytes h =
-    let s = (reading bytes).sheet in
-    ap (λ (x : Bool). cond x (column_text (column_of s) (lists_of s)) (refusal_text (code Sheet))) (long-unread bytes h)
+overlong bytes h = ap reading_text (long-unread bytes h)
 
 -- what is read of an input in a buffer of 369 bytes is answered as the whole input is
 pub first-decide : (bytes : List ℕ) → answer_text (take 369 bytes) ≡ answer_text bytes

@@ -1,6 +1,6 @@
 -- What a column's build leaves in buffers for 1,024 vertices is printed as its text. Assumes nothing.
 use mathlib.Core.Path.{◌≡◌, refl, sym, ap, subst, ◌∙◌}
-use mathlib.Core.Bool.{Bool, true, false, not, ◌&&◌, cond}
+use mathlib.Core.Bool.{Bool, true, false, not, ◌&&◌}
 use mathlib.Core.List.{List}
 use Prim.Native.Nat.{ℕ, ◌*◌, ◌%◌, ◌≤◌, ◌<◌}
 use native.Mathlib.Nat.{zero-add}
@@ -12,7 +12,6 @@ use lib.Ieee.{nan}
 use Rattle.face.specs.declared.triangle.Counts.{Counts}
 use Rattle.face.specs.Vec.{f0}
 use Rattle.answer.specs.declared.answer.Refusal.{Refusal}
-use Rattle.answer.specs.declared.answer.Refusal.TheVariants.{Sheet}
 use Rattle.answer.specs.Answers.{Answer}
 use Rattle.std.specs.Prelude.{Ok, Err}
 use Rattle.answer.specs.Answers.{Roomy, code, limited, room_for}
@@ -27,11 +26,9 @@ use Rattle.column.specs.declared.Column.{Column}
 use Rattle.column.specs.Column.{Lists, column_faces, planned}
 use Rattle.column_builder.specs.Calls.{whole_answer, built}
 use Rattle.column_builder.proofs.Whole.{passes, column-few}
-use Rattle.sheet.specs.declared.reading.Reading.{Reading}
-use Rattle.sheet.specs.Readers.{reading}
 use Rattle.sheet.specs.Meshes.{mesh_text, refusal_text, is_whole, whole_in, Written, TextWritten, MeshWritten}
 use Rattle.sheet.proofs.Alike.{mesh-alike}
-use Rattle.sheet.specs.Answering.{column_of, lists_of, printable, flat, text_of, text_for, column_text, reading_text, answer_text, Answered}
+use Rattle.sheet.specs.Answering.{printable, flat, text_of, text_for, column_text}
 
 -- ---- a column has at most four indices a vertex, so buffers for 1,024 vertices and 4,096 indices refuse a plan exactly
 -- when it has more vertices
@@ -126,11 +123,3 @@ module _ (job : Column) (ls : Lists) (B : Buffers) (s : For1024 B) where
       let l : SameLengths B C = subst (λ (X : Buffers). SameLengths B X) (sym (d ∙ all-is-joined fs none B)) (lay-lengths (joined fs) none B) in
       subst (λ (x : List ℕ). TextWritten x old new n) (sym (text-done job ls B c s p))
       (buffers-written (joined fs) c z C h (rw (l.vertices, l.normals, l.uvs, l.indices) q.1) old new n w)
-
--- ---- what reads, and what does not
-abbrev text_if : Bool → Reading → List ℕ
-text_if good r = cond good (column_text (column_of r.sheet) (lists_of r.sheet)) (refusal_text (code Sheet))
-
-pub reading-written : (bytes : List ℕ) (r : Reading) (x : Bool) → r ≡ reading bytes → r.good ≡ x → (old new : List ℕ) (n : ℕ) → TextWritten (text_if x r) old new n → Answered bytes old new n
-unfolding answer_text
-reading-written bytes r x e p old new n w = subst (λ (t : List ℕ). TextWritten t old new n) (sym (ap (λ (b : Bool). text_if b r) p) ∙ ap reading_text e) w

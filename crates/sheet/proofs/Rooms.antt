@@ -1,12 +1,12 @@
 -- How long a text is, and what the tests before it say. Assumes nothing.
-use mathlib.Core.Path.{◌≡◌, refl, sym, ◌∙◌}
+use mathlib.Core.Path.{◌≡◌, sym, ◌∙◌}
 use mathlib.Core.Bool.{Bool, true, false}
 use mathlib.Core.List.{List, [], ◌∷◌, ◌++◌}
-use Prim.Native.Nat.{ℕ, ◌+◌, ◌*◌, ◌-◌, ◌/◌, ◌%◌, ◌≤◌, ◌<◌}
+use Prim.Native.Nat.{ℕ, ◌+◌, ◌*◌, ◌-◌, ◌≤◌, ◌<◌}
 use native.Mathlib.Numerals.{add-one}
 use native.Mathlib.Omega.{arith}
-use borrow.Author.Tests.{le-leb, lt-leb, leb-true, leb-false}
-use lib.Dec.{leb, eqb}
+use borrow.Author.Tests.{le-leb, lt-leb, leb-true}
+use lib.Dec.{leb}
 use lib.ListN.{length, get_or, length-append}
 use lib.Ieee.{Float}
 use Rattle.face.specs.Lists.{chain}
@@ -18,15 +18,6 @@ use Rattle.sheet.specs.Digits.{newline, hex_digits, decimal, digit_count, gap, h
 use Rattle.sheet.specs.Meshes.{float_word, index_word, float_lines, index_lines, floats_text, indices_text, mesh_text, text_length, refusal_text, vertices_word, normals_word, uvs_word, indices_word, refused_word, is_whole}
 use Rattle.sheet.proofs.Numerals.{length_digits}
 use Rattle.sheet.proofs.Pieces.{grown}
-
--- ---- tests
--- two tests that say the same
-pub same_test : (p q r s : ℕ) → (p ≤ q → r ≤ s) → (q < p → s < r) → leb p q ≡ leb r s
-same_test p q r s f g = go (leb p q) refl
-  where
-    go : (x : Bool) → leb p q ≡ x → x ≡ leb r s
-    go true e = sym (le-leb r s (f (leb-true p q e)))
-    go false e = sym (lt-leb r s (g (leb-false p q e)))
 
 -- ---- lengths
 pub length-heading : (word : List ℕ) (n : ℕ) → length (heading word n) ≡ length word + (digit_count n + 1)
@@ -64,26 +55,6 @@ length-refusal n = length-heading refused_word n ∙ omega arith
 
 -- ---- the test of the lists
 module _ (v i a b c d : ℕ) where
-  pub short-vertices : a < 3 * v → false ≡ is_whole v i a b c d
-  unfolding is_whole
-  short-vertices h = rw (lt-leb (3 * v) a h)
-
-  pub short-normals : 3 * v ≤ a → b < 3 * v → false ≡ is_whole v i a b c d
-  unfolding is_whole
-  short-normals p h = rw (le-leb (3 * v) a p, lt-leb (3 * v) b h)
-
-  pub short-uvs : 3 * v ≤ a → 3 * v ≤ b → c < 2 * v → false ≡ is_whole v i a b c d
-  unfolding is_whole
-  short-uvs p q h = rw (le-leb (3 * v) a p, le-leb (3 * v) b q, lt-leb (2 * v) c h)
-
-  pub short-indices : 3 * v ≤ a → 3 * v ≤ b → 2 * v ≤ c → d < i → false ≡ is_whole v i a b c d
-  unfolding is_whole
-  short-indices p q r h = rw (le-leb (3 * v) a p, le-leb (3 * v) b q, le-leb (2 * v) c r, lt-leb i d h)
-
-  pub triangles-decide : 3 * v ≤ a → 3 * v ≤ b → 2 * v ≤ c → i ≤ d → eqb (i % 3) 0 ≡ is_whole v i a b c d
-  unfolding is_whole
-  triangles-decide p q r h = rw (le-leb (3 * v) a p, le-leb (3 * v) b q, le-leb (2 * v) c r, le-leb i d h)
-
   pub is-whole : (x : Bool) → x ≡ is_whole v i a b c d → x ≡ true → is_whole v i a b c d ≡ true
   is-whole x p e = sym p ∙ e
 
@@ -111,14 +82,3 @@ module _ (is : List ℕ) (n room k left w : ℕ) (u : k < n) (taken : left + len
 pub indices-within : (is : List ℕ) (n room k left : ℕ) → k ≤ n → n ≤ k → left + length (chain (index_word is) k) ≡ room → true ≡ leb (length (index_lines is n)) room
 unfolding index_lines
 indices-within is n room k left h g taken = let e : k ≡ n = omega arith in let t : left + length (chain (index_word is) n) ≡ room = rw e at taken in sym (le-leb (length (chain (index_word is) n)) room (omega arith))
-
--- ---- the test of the whole text's room: v vertices, headings of h bytes and n bytes of indices
-module _ (v h n room : ℕ) where
-  pub numbers-over : room / 72 < v → false ≡ leb (72 * v + (h + n)) room
-  numbers-over u = sym (lt-leb (72 * v + (h + n)) room (omega arith))
-
-  pub headings-over : v ≤ room / 72 → room - 72 * v < h → false ≡ leb (72 * v + (h + n)) room
-  headings-over p u = sym (lt-leb (72 * v + (h + n)) room (omega arith))
-
-  pub indices-decide : v ≤ room / 72 → h ≤ room - 72 * v → leb n (room - 72 * v - h) ≡ leb (72 * v + (h + n)) room
-  indices-decide p q = same_test n (room - 72 * v - h) (72 * v + (h + n)) room (λ u. omega arith) (λ u. omega arith)

@@ -1,76 +1,83 @@
--- One step of a loop over the bytes is one step of its reader. Assumes nothing.
-use mathlib.Core.Path.{◌≡◌, refl, sym, ap, ◌∙◌}
-use mathlib.Core.Bool.{Bool, true, false}
-use mathlib.Core.List.{List, []}
+-- One step of the cursor is one step of its reader. Assumes nothing.
+use mathlib.Core.Path.{◌≡◌, refl, sym}
+use mathlib.Core.Bool.{Bool, true, false, ◌&&◌}
+use mathlib.Core.List.{List, [], ◌∷◌, ◌++◌}
 use Prim.Native.Nat.{ℕ, suc, ◌+◌, ◌*◌, ◌-◌, ◌^◌, ◌≤◌, ◌<◌}
-use native.Mathlib.Nat.{pow-le-pow_right, pow-suc}
+use native.Mathlib.Nat.{mul-le-mul_left, pow-le-pow_right, pow-suc}
 use native.Mathlib.Numerals.{add-one}
 use native.Mathlib.Omega.{arith}
-use borrow.Author.Tests.{lt-ltb, le-ltb, eq-eqb, ne_eqb, ltb-true, ltb-false}
-use lib.Dec.{ltb}
-use lib.ListN.{length, get_or, take, drop, set, drop_of_length-le, take-append-drop}
-use lib.Seq.{drop-cons, drop-drop, drop-set-lt, length-take-le, take-suc-set}
-use Rattle.sheet.specs.declared.reading.Sheet.{Sheet}
-use Rattle.patterns.specs.Digits.{digit_value}
+use borrow.Author.Tests.{lt-ltb, le-ltb, le-leb, ltb-true, ltb-false}
+use lib.Dec.{ltb, eqb}
+use lib.ListN.{length, take, drop, set, replicate, length-replicate}
+use lib.Seq.{length-take-le, take-suc-set}
 use Rattle.sheet.specs.Digits.{gap}
-use Rattle.sheet.specs.Readers.{taken, none, mark_of, word_of, digit_at, hex_from, hex_of, decimal_from, decimal_of, numbers_from, numbers_of, read_as, unreadable, whole}
-
--- ---- a byte
-module _ (b : ℕ) (s : List ℕ) (i : ℕ) where
-  pub mark-here : i < length s → get_or s i 0 ≡ b → taken tt (drop (i + 1) s) ≡ mark_of b (drop i s)
-  unfolding mark_of
-  mark-here h e = rw (drop-cons s i 0 h, eq-eqb (get_or s i 0) b e, add-one i)
-
-  pub mark-other : i < length s → (get_or s i 0 ≡ b → ⊥) → none ≡ mark_of b (drop i s)
-  unfolding mark_of
-  mark-other h e = rw (drop-cons s i 0 h, ne_eqb (get_or s i 0) b e)
-
-  pub mark-end : length s ≤ i → none ≡ mark_of b (drop i s)
-  unfolding mark_of
-  mark-end h = rw (drop_of_length-le s h)
+use lib.Pointwise.{pointwise}
+use Rattle.patterns.specs.Digits.{digit_value}
+use Rattle.sheet.proofs.Formats.{not_none, only-if-inv, taken-value, taken-rest}
+use Rattle.sheet.specs.Readers.{Taken, taken, none, next, only_if, mark_of, word_of, digit_at, digit_of, hex_from, hex_of, decimal_from, section_of, numbers_from, numbers_of, block_of}
 
 -- ---- a word
-module _ (ws : List ℕ) (i : ℕ) (s : List ℕ) where
-  pub word_more : i < length ws → (t : List ℕ) → taken tt t ≡ mark_of (get_or ws i 0) s → word_of (drop i ws) s ≡ word_of (drop (i + 1) ws) t
-  unfolding word_of
-  word_more h t e = rw (drop-cons ws i 0 h, ← e, add-one i)
+abbrev after_byte : Bool → List ℕ → List ℕ → Taken Unit
+after_byte x ws s = next (only_if x (taken (tt {0}) s)) (λ _ a. word_of ws a)
 
-  pub word-not : i < length ws → none ≡ mark_of (get_or ws i 0) s → word_of (drop i ws) s ≡ none
-  unfolding word_of
-  word-not h e = rw (drop-cons ws i 0 h, ← e)
-
-  pub word_end : length ws ≤ i → word_of (drop i ws) s ≡ taken tt s
-  unfolding word_of
-  word_end h = rw (drop_of_length-le ws h)
-
--- ---- a digit
-pub digit-here : (s : List ℕ) (i : ℕ) → i < length s → digit_value (get_or s i 0) ≡ digit_at (drop i s)
-unfolding digit_at
-digit-here s i h = rw (drop-cons s i 0 h)
-
-pub digit-end : (s : List ℕ) (i : ℕ) → length s ≤ i → 16 ≡ digit_at (drop i s)
-unfolding digit_at
-digit-end s i h = rw (drop_of_length-le s h)
-
-pub digit-inside : (s : List ℕ) (i : ℕ) → digit_at (drop i s) < 16 → i < length s
-digit-inside s i h = go (ltb i (length s)) refl
+pub word-here : (ws s : List ℕ) → pointwise eqb (take (length ws) s) ws ≡ true → taken tt (drop (length ws) s) ≡ word_of ws s
+unfolding word_of mark_of
+word-here [] s e = refl
+word-here (w ∷ ws) [] e = cc
+word-here (w ∷ ws) (a ∷ s) e = go (eqb a w) refl (word-here ws s) e
   where
-    go : (x : Bool) → ltb i (length s) ≡ x → i < length s
-    go true e = ltb-true i (length s) e
-    go false e = absurd (omega (arith, digit-end s i (ltb-false i (length s) e)))
+    go : (x : Bool) → eqb a w ≡ x → (pointwise eqb (take (length ws) s) ws ≡ true → taken (tt {0}) (drop (length ws) s) ≡ word_of ws s) → x && pointwise eqb (take (length ws) s) ws ≡ true → taken (tt {0}) (drop (length ws) s) ≡ after_byte x ws s
+    go true p ih h = ih h
+    go false p ih h = cc
+
+pub word-other : (ws s : List ℕ) → pointwise eqb (take (length ws) s) ws ≡ false → none ≡ word_of ws s
+unfolding word_of mark_of
+word-other [] s e = cc
+word-other (w ∷ ws) [] e = refl
+word-other (w ∷ ws) (a ∷ s) e = go (eqb a w) (word-other ws s) e
+  where
+    go : (x : Bool) → (pointwise eqb (take (length ws) s) ws ≡ false → none ≡ word_of ws s) → x && pointwise eqb (take (length ws) s) ws ≡ false → none ≡ after_byte x ws s
+    go true ih h = ih h
+    go false ih h = refl
+
+-- ---- a digit, read in a base
+module _ (base d : ℕ) (s t : List ℕ) (e : taken d t ≡ digit_of base s) where
+  read : (ltb (digit_at s) base ≡ true) × (taken (digit_at s) (drop 1 s) ≡ taken d t)
+  read = only-if-inv (ltb (digit_at s) base) (taken (digit_at s) (drop 1 s)) d t (sym e)
+
+  pub digit-is : digit_at s ≡ d
+  digit-is = taken-value read.1
+
+  pub digit-rest : drop 1 s ≡ t
+  digit-rest = taken-rest read.1
+
+  pub digit-below : d < base
+  digit-below = omega (arith, ltb-true (digit_at s) base read.0, digit-is)
+
+pub digit-shorter : (d : ℕ) (s t : List ℕ) → taken d t ≡ digit_of 10 s → length t < length s
+unfolding digit_at
+digit-shorter d [] t e = absurd (not_none (sym e))
+digit-shorter d (b ∷ s) t e = let r : s ≡ t = digit-rest 10 d (b ∷ s) t e in rw (← r) (omega arith)
+
+no_digit : (base : ℕ) (s : List ℕ) → none ≡ digit_of base s → base ≤ digit_at s
+no_digit base s e = go (ltb (digit_at s) base) refl e
+  where
+    go : (x : Bool) → ltb (digit_at s) base ≡ x → none ≡ only_if x (taken (digit_at s) (drop 1 s)) → base ≤ digit_at s
+    go true p h = absurd (not_none h)
+    go false p h = ltb-false (digit_at s) base p
 
 -- ---- hex digits
-module _ (k v : ℕ) (s : List ℕ) (i : ℕ) (h : k < 8) where
+module _ (k v : ℕ) (s : List ℕ) (h : k < 8) where
   left : 8 - k ≡ suc (8 - (k + 1))
   left = omega arith
 
-  pub hex-more : digit_at (drop i s) < 16 → hex_from (8 - k) v (drop i s) ≡ hex_from (8 - (k + 1)) (v * 16 + digit_at (drop i s)) (drop (i + 1) s)
+  pub hex-more : (d : ℕ) (t : List ℕ) → taken d t ≡ digit_of 16 s → hex_from (8 - k) v s ≡ hex_from (8 - (k + 1)) (v * 16 + d) t
   unfolding hex_from
-  hex-more d = rw (left, lt-ltb (digit_at (drop i s)) 16 d, drop-drop 1 i s)
+  hex-more d t e = rw (left, (read 16 d s t e).0, digit-is 16 d s t e, digit-rest 16 d s t e)
 
-  pub hex-not : 16 ≤ digit_at (drop i s) → hex_from (8 - k) v (drop i s) ≡ none
+  pub hex-not : none ≡ digit_of 16 s → none ≡ hex_from (8 - k) v s
   unfolding hex_from
-  hex-not d = rw (left, le-ltb (digit_at (drop i s)) 16 d)
+  hex-not e = rw (left, le-ltb (digit_at s) 16 (no_digit 16 s e))
 
 pub hex-room : (k v : ℕ) → k < 8 → v < 16 ^ k → v < 268435456
 hex-room k v h b = let p : 16 ^ k ≤ 16 ^ 7 = pow-le-pow_right {n = 16} (omega arith) {i = k} {j = 7} (omega arith) in omega arith
@@ -83,77 +90,44 @@ unfolding hex_from
 hex-whole v s k h = let p : 8 - k ≡ 0 = omega arith in rw p
 
 -- ---- decimal digits
-module _ (v : ℕ) (s : List ℕ) (i : ℕ) where
-  pub decimal-end : length s ≤ i → decimal_from v (drop i s) ≡ taken v (drop i s)
-  unfolding decimal_from
-  decimal-end h = rw (drop_of_length-le s h)
+module _ (v : ℕ) where
+  pub decimal-stop : (s : List ℕ) → none ≡ digit_of 10 s → decimal_from v s ≡ taken v s
+  unfolding decimal_from digit_at
+  decimal-stop [] e = refl
+  decimal-stop (b ∷ s) e = rw (le-ltb (digit_value b) 10 (no_digit 10 (b ∷ s) e))
 
-  pub decimal-stop : i < length s → 10 ≤ digit_value (get_or s i 0) → decimal_from v (drop i s) ≡ taken v (drop i s)
-  unfolding decimal_from
-  decimal-stop h d = rw (drop-cons s i 0 h, le-ltb (digit_value (get_or s i 0)) 10 d)
+  pub decimal-more : (d : ℕ) (s t : List ℕ) → taken d t ≡ digit_of 10 s → v * 10 + d < 4294967296 → decimal_from v s ≡ decimal_from (v * 10 + d) t
+  unfolding decimal_from digit_at
+  decimal-more d [] t e h = absurd (not_none (sym e))
+  decimal-more d (b ∷ s) t e h = rw ((read 10 d (b ∷ s) t e).0, digit-is 10 d (b ∷ s) t e, digit-rest 10 d (b ∷ s) t e, lt-ltb (v * 10 + d) 4294967296 h)
 
-  pub decimal-over : i < length s → digit_value (get_or s i 0) < 10 → 4294967296 ≤ v * 10 + digit_value (get_or s i 0) → decimal_from v (drop i s) ≡ none
-  unfolding decimal_from
-  decimal-over h d o = rw (drop-cons s i 0 h, lt-ltb (digit_value (get_or s i 0)) 10 d, le-ltb (v * 10 + digit_value (get_or s i 0)) 4294967296 o)
-
-  pub decimal-more : i < length s → digit_value (get_or s i 0) < 10 → v * 10 + digit_value (get_or s i 0) < 4294967296 → decimal_from v (drop i s) ≡ decimal_from (v * 10 + digit_value (get_or s i 0)) (drop (i + 1) s)
-  unfolding decimal_from
-  decimal-more h d o = rw (drop-cons s i 0 h, lt-ltb (digit_value (get_or s i 0)) 10 d, lt-ltb (v * 10 + digit_value (get_or s i 0)) 4294967296 o, add-one i)
-
-module _ (s : List ℕ) (i : ℕ) where
-  pub decimal-not : 10 ≤ digit_at (drop i s) → none ≡ decimal_of (drop i s)
-  unfolding decimal_of
-  decimal-not d = rw (le-ltb (digit_at (drop i s)) 10 d)
-
-  pub decimal-zero : digit_at (drop i s) ≡ 0 → taken 0 (drop (i + 1) s) ≡ decimal_of (drop i s)
-  unfolding decimal_of
-  decimal-zero z = rw (lt-ltb (digit_at (drop i s)) 10 (omega arith), eq-eqb (digit_at (drop i s)) 0 z, drop-drop 1 i s)
-
-  pub decimal-first : digit_at (drop i s) < 10 → (digit_at (drop i s) ≡ 0 → ⊥) → decimal_from (digit_at (drop i s)) (drop (i + 1) s) ≡ decimal_of (drop i s)
-  unfolding decimal_of
-  decimal-first d z = rw (lt-ltb (digit_at (drop i s)) 10 d, ne_eqb (digit_at (drop i s)) 0 z, drop-drop 1 i s)
+  pub decimal-over : (d : ℕ) (s t : List ℕ) → taken d t ≡ digit_of 10 s → 4294967296 ≤ v * 10 + d → decimal_from v s ≡ none
+  unfolding decimal_from digit_at
+  decimal-over d [] t e h = absurd (not_none (sym e))
+  decimal-over d (b ∷ s) t e h = rw ((read 10 d (b ∷ s) t e).0, digit-is 10 d (b ∷ s) t e, le-ltb (v * 10 + d) 4294967296 h)
 
 -- ---- numbers
-module _ (width many i : ℕ) (out s : List ℕ) (h : i < many) (r : many ≤ length out) where
-  many-left : many - i ≡ suc (many - (i + 1))
-  many-left = omega arith
+pub numbers_more : (width many i x : ℕ) (out s a b : List ℕ) → i < many → many ≡ length out → taken x a ≡ hex_of s → taken (tt {0}) b ≡ mark_of (gap width i) a → numbers_from width (many - i) (take i out) s ≡ numbers_from width (many - (i + 1)) (take (i + 1) (set out i x)) b
+unfolding numbers_from
+numbers_more width many i x out s a b h r e f =
+    let left : many - i ≡ suc (many - (i + 1)) = omega arith in
+    let at : length (take i out) ≡ i = length-take-le i out (omega arith) in
+    let l : i < length out = omega arith in
+    rw (left, ← e, at, ← f, add-one i, take-suc-set out i x l)
 
-  at_i : length (take i out) ≡ i
-  at_i = length-take-le i out (omega arith)
+-- ---- a section with its lines
+module _ (name : List ℕ) (width places n : ℕ) (s a : List ℕ) (read : taken n a ≡ section_of name s) (few : n ≤ 6) (room : width * 6 ≤ places) where
+  -- the places that are lent
+  abbrev lent : List ℕ
+  lent = take (width * n) (replicate places 0)
 
-  pub numbers_more : (x : ℕ) (a b : List ℕ) → taken x a ≡ hex_of s → taken tt b ≡ mark_of (gap width i) a → numbers_from width (many - i) (take i out) s ≡ numbers_from width (many - (i + 1)) (take (i + 1) (set out i x)) b
-  unfolding numbers_from
-  numbers_more x a b e f = let l : i < length out = omega arith in rw (many-left, ← e, at_i, ← f, add-one i, take-suc-set out i x l)
+  lent-all : length lent ≡ width * n
+  lent-all = length-take-le (width * n) (replicate places 0) (omega (arith, mul-le-mul_left {m = n} {n = 6} width few, length-replicate {A = ℕ} places 0))
 
-  pub numbers-no-hex : none ≡ hex_of s → numbers_from width (many - i) (take i out) s ≡ none
-  unfolding numbers_from
-  numbers-no-hex e = rw (many-left, ← e)
+  pub block-not : none ≡ numbers_from width (length lent) [] a → none ≡ block_of name width places s
+  unfolding block_of numbers_of
+  block-not e = rw (← read, le-leb n 6 few, ← lent-all, ← e)
 
-  pub numbers-no-mark : (x : ℕ) (a : List ℕ) → taken x a ≡ hex_of s → none ≡ mark_of (gap width i) a → numbers_from width (many - i) (take i out) s ≡ none
-  unfolding numbers_from
-  numbers-no-mark x a e f = rw (many-left, ← e, at_i, ← f)
-
--- a store at i leaves the places past it
-pub drop_more : (i x : ℕ) (out old : List ℕ) → drop i out ≡ drop i old → drop (i + 1) (set out i x) ≡ drop (i + 1) old
-drop_more i x out old e =
-    drop-set-lt (i + 1) out i x (omega arith) ∙ (sym (drop-drop 1 i out) ∙ (ap (drop 1) e ∙ drop-drop 1 i old))
-
-module _ (width many : ℕ) (old s : List ℕ) where
-  pub numbers-not : numbers_from width many [] s ≡ none → none ≡ numbers_of width many old s
-  unfolding numbers_of
-  numbers-not e = rw e
-
-  pub numbers-end : (i : ℕ) (out t : List ℕ) → i ≤ many → many ≤ i → drop i out ≡ drop i old → numbers_from width many [] s ≡ numbers_from width (many - i) (take i out) t → taken out t ≡ numbers_of width many old s
-  unfolding numbers_of numbers_from
-  numbers-end i out t p q d e =
-      let z : many - i ≡ 0 = omega arith in
-      let m : many ≡ i = omega arith in
-      let f : numbers_from width many [] s ≡ taken (take i out) t = rw z at e in
-      rw (f, m, ← d, take-append-drop i out)
-
--- ---- the end
-pub ended : (b : Sheet) (s : List ℕ) (i : ℕ) → length s ≤ i → read_as b ≡ whole (taken b (drop i s))
-ended b s i h = rw (drop_of_length-le s h)
-
-pub not-ended : (b : Sheet) (s : List ℕ) (i : ℕ) → i < length s → unreadable ≡ whole (taken b (drop i s))
-not-ended b s i h = rw (drop-cons s i 0 h)
+  pub block-read : (xs b : List ℕ) → taken xs b ≡ numbers_from width (length lent) [] a → taken (record { lines = n; numbers = xs ++ drop (width * n) (replicate places 0) }) b ≡ block_of name width places s
+  unfolding block_of numbers_of
+  block-read xs b e = let f : taken xs b ≡ numbers_from width (width * n) [] a = rw lent-all at e in rw (← read, le-leb n 6 few, ← f)

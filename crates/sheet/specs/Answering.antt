@@ -1,5 +1,5 @@
 -- The text that a sheet is answered with; P1 to P9, R9 and L1d are rows of docs/TRACE.md. Definitions only.
-use Rattle.std.specs.Prelude.{ℕ, ◌+◌, ◌*◌, Bool, cond, List, [], map, leb, ltb, Float}
+use Rattle.std.specs.Prelude.{ℕ, ◌+◌, ◌*◌, Bool, cond, List, [], map, leb, ltb, Float, Option, Some, None}
 use Rattle.patterns.specs.Patterns.{float_of}
 use Rattle.face.specs.Lists.{each}
 use Rattle.face.specs.Vec.{zero2}
@@ -21,7 +21,6 @@ use Rattle.column.specs.declared.Side.{Side}
 use Rattle.column.specs.declared.Column.{Column}
 use Rattle.column.specs.Column.{Lists, lists, column_faces, planned}
 use Rattle.sheet.specs.declared.reading.Sheet.{Sheet}
-use Rattle.sheet.specs.declared.reading.Reading.{Reading}
 use Rattle.sheet.specs.Readers.{reading}
 use Rattle.sheet.specs.Meshes.{mesh_text, refusal_text, TextWritten}
 
@@ -86,8 +85,9 @@ unfoldable pub column_text : Column → Lists → List ℕ
 column_text job ls = text_for (printable (planned job ls)) (joined (column_faces job ls))
 
 -- R9, P6: what does not read is 9, before anything else
-abbrev pub reading_text : Reading → List ℕ
-reading_text r = cond r.good (column_text (column_of r.sheet) (lists_of r.sheet)) (refusal_text (code refusal.Sheet))
+abbrev pub reading_text : Option Sheet → List ℕ
+reading_text (Some s) = column_text (column_of s) (lists_of s)
+reading_text None = refusal_text (code refusal.Sheet)
 
 unfoldable pub answer_text : List ℕ → List ℕ
 answer_text bytes = reading_text (reading bytes)

@@ -1,5 +1,5 @@
 -- A mesh and a refusal as the bytes that are printed of them; P2 to P9 are rows of docs/TRACE.md. Definitions only.
-use Rattle.std.specs.Prelude.{◌≡◌, ℕ, ◌+◌, ◌*◌, ◌%◌, ◌≤◌, Bool, true, ◌&&◌, cond, List, [], ◌∷◌, ◌++◌, length, get_or, drop, leb, eqb, Float}
+use Rattle.std.specs.Prelude.{◌≡◌, ℕ, ◌+◌, ◌*◌, ◌%◌, Bool, ◌&&◌, cond, List, [], ◌∷◌, ◌++◌, length, get_or, drop, leb, eqb, Float}
 use Rattle.std.specs.Float.{nan}
 use Rattle.patterns.specs.Patterns.{bits_of}
 use Rattle.face.specs.declared.triangle.Counts.{Counts}
@@ -22,19 +22,29 @@ indices_word = bytes "indices "
 abbrev pub refused_word : List ℕ
 refused_word = bytes "refused "
 
--- a number with what follows it
-abbrev pub float_word : List Float → ℕ → ℕ → List ℕ
-float_word xs width k = hex_digits (bits_of (get_or xs k nan)) ++ (gap width k ∷ [])
-
-abbrev pub index_word : List ℕ → ℕ → List ℕ
-index_word is k = decimal (get_or is k 0) ++ (gap 3 k ∷ [])
+-- number k of a list as its word, with what follows it; d stands past the list's end
+abbrev pub word_at : {A : Type 0} → (A → List ℕ) → A → List A → ℕ → ℕ → List ℕ
+word_at word d xs width k = word (get_or xs k d) ++ (gap width k ∷ [])
 
 -- the first n numbers of a list, so many to a line
+abbrev pub lines : {A : Type 0} → (A → List ℕ) → A → List A → ℕ → ℕ → List ℕ
+lines word d xs width n = chain (word_at word d xs width) n
+
+-- P2: a float as its pattern
+abbrev pub float_text : Float → List ℕ
+float_text x = hex_digits (bits_of x)
+
+abbrev pub float_word : List Float → ℕ → ℕ → List ℕ
+float_word = word_at float_text nan
+
+abbrev pub index_word : List ℕ → ℕ → List ℕ
+index_word is k = word_at decimal 0 is 3 k
+
 unfoldable pub float_lines : List Float → ℕ → ℕ → List ℕ
-float_lines xs width n = chain (float_word xs width) n
+float_lines xs width n = lines float_text nan xs width n
 
 unfoldable pub index_lines : List ℕ → ℕ → List ℕ
-index_lines is n = chain (index_word is) n
+index_lines is n = lines decimal 0 is 3 n
 
 -- a part with its count: a line for each of v vertices
 abbrev pub floats_text : List ℕ → List Float → ℕ → ℕ → List ℕ
@@ -65,10 +75,6 @@ is_whole v i vs ns ts is = leb (3 * v) vs && (leb (3 * v) ns && (leb (2 * v) ts 
 
 abbrev pub whole_in : Buffers → Counts → Bool
 whole_in B c = is_whole c.vertices.0 c.indices.0 (length B.vertices) (length B.normals) (length B.uvs) (length B.indices)
-
--- what `put_mesh` asks
-abbrev pub Writable : Buffers → Counts → List ℕ → Type 0
-Writable B c old = (whole_in B c ≡ true) × (length (mesh_text B c) ≤ length old)
 
 -- a text at the start of a buffer, with its length as the answer; or nothing written, and 0
 pub record Written (ok : Bool) (text old new : List ℕ) (r : ℕ) : Type 0 where

@@ -1,14 +1,9 @@
 -- Readers: what stands at the front of a list of bytes, and the bytes after it. Definitions only.
-use Rattle.std.specs.Prelude.{ℕ, zero, suc, ◌+◌, ◌*◌, Bool, true, false, ◌||◌, cond, List, [], ◌∷◌, ◌++◌, eqb, ltb, leb, length, drop, replicate}
-use Rattle.sheet.specs.declared.reading.Sheet.{Sheet}
-use Rattle.sheet.specs.declared.reading.Reading.{Reading}
-use Rattle.sheet.specs.declared.reading.Head.{Head}
-use Rattle.sheet.specs.declared.reading.Head.TheVariants as head
-use Rattle.sheet.specs.declared.reading_numbers.Spot.{Spot}
-use Rattle.sheet.specs.declared.reading_numbers.Spot.TheVariants as spot
-use Rattle.sheet.specs.declared.reading_numbers.Number.{Number}
-use Rattle.sheet.specs.declared.reading_numbers.Number.TheVariants as number
+use Rattle.std.specs.Prelude.{ℕ, zero, suc, ◌+◌, ◌*◌, ◌≡◌, Bool, true, false, ◌||◌, cond, List, [], ◌∷◌, ◌++◌, eqb, ltb, leb, length, drop, replicate, Option, Some, None}
 use Rattle.patterns.specs.Digits.{digit_value}
+use Rattle.sheet.specs.declared.reading.Sheet.{Sheet}
+use Rattle.sheet.specs.declared.reading.Head.{Head}
+use Rattle.sheet.specs.declared.reading_lines.Block.{Block}
 use Rattle.sheet.specs.Digits.{newline, space, gap}
 use Rattle.sheet.specs.Sheets.{column_word, sides_word, caps_word}
 
@@ -37,6 +32,10 @@ word_of (w ∷ ws) s = next (mark_of w s) (λ _ a. word_of ws a)
 unfoldable pub digit_at : List ℕ → ℕ
 digit_at [] = 16
 digit_at (b ∷ s) = digit_value b
+
+-- a digit in a base of at most 16
+abbrev pub digit_of : ℕ → List ℕ → Taken ℕ
+digit_of base s = only_if (ltb (digit_at s) base) (taken (digit_at s) (drop 1 s))
 
 -- k more hex digits after those that are worth v
 unfoldable pub hex_from : ℕ → ℕ → List ℕ → Taken ℕ
@@ -75,20 +74,13 @@ numbers_from width (suc j) xs s =
 unfoldable pub numbers_of : ℕ → ℕ → List ℕ → List ℕ → Taken (List ℕ)
 numbers_of width n old s = next (numbers_from width n [] s) (λ xs a. taken (xs ++ drop n old) a)
 
-pub record Block : Type 0 where
-  pub count : ℕ
-  pub numbers : List ℕ
-
-unfoldable pub block_of : List ℕ → ℕ → List ℕ → List ℕ → Taken Block
-block_of name width old s =
+-- a count of lines, and the numbers in so many places
+unfoldable pub block_of : List ℕ → ℕ → (places : ℕ) → List ℕ → Taken (Block places)
+block_of name width places s =
     next (section_of name s)
-    (λ n a. only_if (leb n 6) (next (numbers_of width (width * n) old a) (λ xs b. taken (record { count = n; numbers = xs }) b)))
+    (λ n a. only_if (leb n 6) (next (numbers_of width (width * n) (replicate places 0) a) (λ xs b. taken (record { lines = n; numbers = xs }) b)))
 
-pub record HeadLine : Type 0 where
-  pub height : ℕ
-  pub subdivisions : ℕ
-
-unfoldable pub head_of : List ℕ → Taken HeadLine
+unfoldable pub head_of : List ℕ → Taken Head
 head_of s =
     next (section_of column_word s)
     (λ n a. only_if (eqb n 1)
@@ -97,14 +89,14 @@ head_of s =
     (λ _ c. next (count_of c) (λ d e. taken (record { height = h; subdivisions = d }) e)))))
 
 -- ---- the sheet
-abbrev pub sheet_with : HeadLine → Block → Block → Sheet
+abbrev pub sheet_with : Head → Block 24 → Block 12 → Sheet
 sheet_with h sides caps =
     record {
       height = h.height;
       subdivisions = h.subdivisions;
-      sides = sides.count;
+      sides = sides.lines;
       pairs = sides.numbers;
-      caps = eqb caps.count 6;
+      caps = eqb caps.lines 6;
       corners = caps.numbers;
     }
 
@@ -115,45 +107,29 @@ are_caps lines = eqb lines 0 || eqb lines 6
 unfoldable pub sheet_of : List ℕ → Taken Sheet
 sheet_of s =
     next (head_of s)
-    (λ h a. next (block_of sides_word 4 (replicate 24 0) a)
-    (λ sides b. next (block_of caps_word 2 (replicate 12 0) b)
-    (λ caps c. only_if (are_caps caps.count) (taken (sheet_with h sides caps) c))))
-
-abbrev pub blank : Sheet
-blank = record { height = 0; subdivisions = 0; sides = 0; pairs = replicate 24 0; caps = false; corners = replicate 12 0 }
-
-abbrev pub read_as : Sheet → Reading
-read_as s = record { good = true; sheet = s }
-
-abbrev pub unreadable : Reading
-unreadable = record { good = false; sheet = blank }
+    (λ h a. next (block_of sides_word 4 24 a)
+    (λ sides b. next (block_of caps_word 2 12 b)
+    (λ caps c. only_if (are_caps caps.lines) (taken (sheet_with h sides caps) c))))
 
 -- nothing stands after the sheet
-abbrev pub whole : Taken Sheet → Reading
-whole none = unreadable
-whole (taken s []) = read_as s
-whole (taken s (b ∷ r)) = unreadable
+abbrev pub whole : Taken Sheet → Option Sheet
+whole none = None
+whole (taken s []) = Some s
+whole (taken s (b ∷ r)) = None
 
-unfoldable pub reading : List ℕ → Reading
+unfoldable pub reading : List ℕ → Option Sheet
 reading s = whole (sheet_of s)
 
--- ---- what the functions' answers say of the bytes
-abbrev pub spot_seen : List ℕ → Spot → Taken Unit
-spot_seen s (spot.At n) = taken tt (drop n s)
-spot_seen s spot.Not = none
+-- ---- what the cursor's answers say of the bytes, with those that are left after the call
+abbrev pub seen : {A : Type 0} → List ℕ → Option A → Taken A
+seen left (Some a) = taken a left
+seen left None = none
 
-abbrev pub number_seen : List ℕ → Number → Taken ℕ
-number_seen s (number.Of v n) = taken v (drop n s)
-number_seen s number.Not = none
+abbrev pub list_seen : List ℕ → List ℕ → Option Unit → Taken (List ℕ)
+list_seen left xs (Some _) = taken xs left
+list_seen left xs None = none
 
-abbrev pub head_seen : List ℕ → Head → Taken HeadLine
-head_seen s (head.Of h d n) = taken (record { height = h; subdivisions = d }) (drop n s)
-head_seen s head.Not = none
-
-abbrev pub list_seen : List ℕ → List ℕ → Spot → Taken (List ℕ)
-list_seen s xs (spot.At n) = taken xs (drop n s)
-list_seen s xs spot.Not = none
-
-abbrev pub block_seen : List ℕ → List ℕ → Number → Taken Block
-block_seen s xs (number.Of v n) = taken (record { count = v; numbers = xs }) (drop n s)
-block_seen s xs number.Not = none
+-- where nothing is read, nothing is passed
+abbrev pub Kept : {A : Type 0} → Option A → List ℕ → List ℕ → Type 0
+Kept (Some a) old new = Unit
+Kept None old new = new ≡ old

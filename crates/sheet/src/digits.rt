@@ -8,22 +8,21 @@ pub(crate) fn digit(d: usize) -> u8
     ensures { result ≡ digit d }
 {
     if d < 10 {
-        return (48 + d) as u8;
+        (48 + d) as u8
+    } else {
+        (87 + d) as u8
     }
-    (87 + d) as u8
 }
 
 // How many digits a plain decimal has: no number here has more than twenty.
 pub(crate) fn digit_count(n: usize) -> usize
-    ensures { (result ≡ digit_count n) × (result ≤ 20) }
+    ensures count { result ≡ digit_count n }
+    ensures most { result ≤ 20 }
 {
-    let mut rest = n;
-    let mut many = 1;
-    while rest >= 10 {
-        rest = rest / 10;
-        many += 1;
+    match n.checked_ilog10() {
+        Some(power) => power as usize + 1,
+        None => 1,
     }
-    many
 }
 
 // What follows number k of those that stand so many to a line.
@@ -31,8 +30,5 @@ pub(crate) fn gap(width: usize, k: usize) -> u8
     requires { 0 < width }
     ensures { result ≡ gap width k }
 {
-    if k % width == width - 1 {
-        return b'\n';
-    }
-    b' '
+    if k % width == width - 1 { b'\n' } else { b' ' }
 }

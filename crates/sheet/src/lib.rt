@@ -10,61 +10,37 @@ mod writing_lines;
 mod writing_numbers;
 mod writing_room;
 
-ghost use Rattle.std.specs.Prelude.{◌≡◌, length, []};
+ghost use Rattle.std.specs.Prelude.{◌≡◌, []};
 ghost use Rattle.answer.specs.Answers.{code};
 ghost use Rattle.column.specs.Column.{lists};
 ghost use Rattle.sheet.specs.Meshes.{refusal_text, TextWritten};
-ghost use Rattle.sheet.specs.Answering.{floats, plain_if, sides_of, column_of, column_text, Answered};
+ghost use Rattle.sheet.specs.Answering.{plain_if, sides_of, column_of, lists_of, column_text, Answered};
 
 use crate::reading::Sheet;
+use crate::writing::Stored;
 use answer::answer::{Answer, Refusal};
 use column::{Column, Side, Subdivisions};
 use face::vec::Vec2;
 use placement::options::Choice;
 use placement::placement::{Choice3, Placement, Turn};
 
-fn fill_floats(patterns: &[u32], out: &mut [f32])
-    requires { length out.old ≡ length patterns.now }
-    ensures { out.new ≡ floats patterns.now }
-{
-    for i in 0usize..patterns.len() {
-        out[i] = patterns::float(patterns[i]);
-    }
-}
-
 // The default option, where there is a face at all.
 fn plain_if(there: bool) -> Choice
     ensures { result ≡ plain_if there }
 {
     if there {
-        return Choice::With(255);
+        Choice::With(255)
+    } else {
+        Choice::Absent
     }
-    Choice::Absent
 }
 
 fn sides_of(n: u32) -> [Side; 6]
     ensures { result ≡ sides_of n }
 {
-    [
-        Side {
-            option: plain_if(0 < n),
-        },
-        Side {
-            option: plain_if(1 < n),
-        },
-        Side {
-            option: plain_if(2 < n),
-        },
-        Side {
-            option: plain_if(3 < n),
-        },
-        Side {
-            option: plain_if(4 < n),
-        },
-        Side {
-            option: plain_if(5 < n),
-        },
-    ]
+    std::array::from_fn(|d| Side {
+        option: plain_if((d as u32) < n),
+    })
 }
 
 fn column_of(sheet: Sheet) -> Column
@@ -75,7 +51,7 @@ fn column_of(sheet: Sheet) -> Column
     Column {
         height: patterns::float(sheet.height),
         subdivisions: Subdivisions::Of(sheet.subdivisions),
-        sides: sides,
+        sides,
         top: cap,
         bottom: cap,
         position: Vec2 { x: 0.0, y: 0.0 },
@@ -92,8 +68,6 @@ fn column_of(sheet: Sheet) -> Column
 fn write_column(job: Column, pairs: &[f32], corners: &[f32], out: &mut [u8]) -> usize
     ensures { TextWritten (column_text job (lists pairs.now corners.now [] [])) out.old out.new result }
 {
-    let numbers = [0f32; 0];
-    let marks = [0u8; 0];
     let mut vertices = [0f32; 3072];
     let mut normals = [0f32; 3072];
     let mut uvs = [0f32; 2048];
@@ -102,8 +76,8 @@ fn write_column(job: Column, pairs: &[f32], corners: &[f32], out: &mut [u8]) -> 
         job,
         pairs,
         corners,
-        &numbers,
-        &marks,
+        &[],
+        &[],
         &mut vertices,
         &mut normals,
         &mut uvs,
@@ -111,9 +85,16 @@ fn write_column(job: Column, pairs: &[f32], corners: &[f32], out: &mut [u8]) -> 
     );
     match answer {
         Err(why) => write_refusal(why, out),
-        Ok(counts) => writing::write_mesh(
-            &vertices, &normals, &uvs, &indices, counts, out,
-        ),
+        Ok(counts) => {
+            let mesh = Stored {
+                vertices: &vertices,
+                normals: &normals,
+                uvs: &uvs,
+                indices: &indices,
+                counts,
+            };
+            writing::write_mesh(mesh, out)
+        }
     }
 }
 
@@ -124,27 +105,22 @@ fn write_refusal(why: Refusal, out: &mut [u8]) -> usize
     writing::write_refusal(number, out)
 }
 
-fn write_patterns(job: Column, ends: [u32; 24], ring: [u32; 12], out: &mut [u8]) -> usize
-    ensures { TextWritten (column_text job (lists (floats ends) (floats ring) [] [])) out.old out.new result }
+fn write_sheet(sheet: Sheet, out: &mut [u8]) -> usize
+    ensures { TextWritten (column_text (column_of sheet) (lists_of sheet)) out.old out.new result }
 {
-    let mut pairs = [0f32; 24];
-    let mut corners = [0f32; 12];
-    fill_floats(&ends, &mut pairs);
-    fill_floats(&ring, &mut corners);
-    write_column(job, &pairs, &corners, out)
+    let pairs = sheet.pairs.map(patterns::float);
+    let corners = sheet.corners.map(patterns::float);
+    write_column(column_of(sheet), &pairs, &corners, out)
 }
 
 // Writes the answer of a sheet at the start of a buffer, and answers how many bytes it takes. Where
 // they do not fit, it writes nothing and answers 0.
+#[tactic(auto, unfolding(crate::specs::Answering::answer_text))]
 pub fn write_answer(bytes: &[u8], out: &mut [u8]) -> usize
     ensures { Answered bytes.now out.old out.new result }
 {
-    let found = reading::read(bytes);
-    if !found.good {
-        return write_refusal(Refusal::Sheet, out);
+    match reading::read(bytes) {
+        Some(sheet) => write_sheet(sheet, out),
+        None => write_refusal(Refusal::Sheet, out),
     }
-    let sheet = found.sheet;
-    let pairs = sheet.pairs;
-    let corners = sheet.corners;
-    write_patterns(column_of(sheet), pairs, corners, out)
 }

@@ -1,9 +1,9 @@
 // The bytes of a sheet to a sheet. Numbers are bit patterns, so that nothing of a NaN is lost.
 ghost use Rattle.std.specs.Prelude.{◌≡◌};
-ghost use Rattle.sheet.specs.Readers.{are_caps, head_of, head_seen, unreadable, reading};
+ghost use Rattle.sheet.specs.Readers.{are_caps, head_of, seen, reading};
 
-use crate::reading_lines::{block, count, section};
-use crate::reading_numbers::{Number, Spot, hex, mark};
+use crate::reading_lines::Block;
+use crate::reading_numbers::Cursor;
 
 // What an absent side or absent caps would carry is 0.
 #[derive(Clone, Copy)]
@@ -16,97 +16,63 @@ pub struct Sheet {
     pub corners: [u32; 12],
 }
 
-// What does not read is refusal 9, which the caller gives; its sheet is all 0.
 #[derive(Clone, Copy)]
-pub struct Reading {
-    pub good: bool,
-    pub sheet: Sheet,
+struct Head {
+    height: u32,
+    subdivisions: u32,
 }
 
-#[derive(Clone, Copy)]
-enum Head {
-    Of(u32, u32, usize),
-    Not,
-}
-
-fn unread() -> Reading
-    ensures { result ≡ unreadable }
+#[tactic(auto, unfolding(crate::specs::Readers::head_of))]
+fn head_lines(bytes: &mut Cursor<'_>) -> Option<Head>
+    ensures { seen bytes.new.rest.now result ≡ head_of bytes.old.rest.now }
 {
-    Reading {
-        good: false,
-        sheet: Sheet {
-            height: 0,
-            subdivisions: 0,
-            sides: 0,
-            pairs: [0u32; 24],
-            caps: false,
-            corners: [0u32; 12],
-        },
+    if bytes.section(b"column ")? != 1 {
+        return None;
     }
-}
-
-fn head_lines(bytes: &[u8]) -> Head
-    ensures { head_seen bytes.now result ≡ head_of bytes.now }
-{
-    let Number::Of(columns, a) = section(bytes, 0, b"column ") else {
-        return Head::Not;
-    };
-    if columns != 1 {
-        return Head::Not;
-    }
-    let Number::Of(height, b) = hex(bytes, a) else {
-        return Head::Not;
-    };
-    let Spot::At(c) = mark(bytes, b, b' ') else {
-        return Head::Not;
-    };
-    let Number::Of(subdivisions, d) = count(bytes, c) else {
-        return Head::Not;
-    };
-    Head::Of(height, subdivisions, d)
+    let height = bytes.hex()?;
+    bytes.mark(b' ')?;
+    let subdivisions = bytes.count()?;
+    Some(Head {
+        height,
+        subdivisions,
+    })
 }
 
 // Both caps or none.
 fn are_caps(lines: u32) -> bool
     ensures { result ≡ are_caps lines }
 {
-    if lines == 0 {
-        return true;
-    }
-    lines == 6
+    matches!(lines, 0 | 6)
 }
 
-// Reads exactly the texts of lawful sheets, each as its sheet.
-pub(crate) fn read(bytes: &[u8]) -> Reading
+// Reads exactly the texts of lawful sheets, each as its sheet. What does not read is refusal 9, which
+// the caller gives.
+#[tactic(auto, unfolding(crate::specs::Readers::reading, crate::specs::Readers::sheet_of))]
+pub(crate) fn read(bytes: &[u8]) -> Option<Sheet>
     ensures { result ≡ reading bytes.now }
 {
-    let mut pairs = [0u32; 24];
-    let mut corners = [0u32; 12];
-    let Head::Of(height, subdivisions, a) = head_lines(bytes) else {
-        return unread();
-    };
-    let Number::Of(sides, b) = block(bytes, a, b"sides ", 4, &mut pairs) else {
-        return unread();
-    };
-    let Number::Of(caps, c) = block(bytes, b, b"caps ", 2, &mut corners) else {
-        return unread();
-    };
-    if !are_caps(caps) {
-        return unread();
+    let mut left = Cursor { rest: bytes };
+    let Head {
+        height,
+        subdivisions,
+    } = head_lines(&mut left)?;
+    let Block {
+        lines: sides,
+        numbers: pairs,
+    } = left.block(b"sides ", 4)?;
+    let Block {
+        lines: caps,
+        numbers: corners,
+    } = left.block(b"caps ", 2)?;
+    if !are_caps(caps) || !left.rest.is_empty() {
+        return None;
     }
-    if c < bytes.len() {
-        return unread();
-    }
-    let sheet = Sheet {
-        height: height,
-        subdivisions: subdivisions,
-        sides: sides,
-        pairs: pairs,
+    Some(Sheet {
+        height,
+        subdivisions,
+        sides,
+        pairs,
         caps: caps == 6,
-        corners: corners,
-    };
-    Reading {
-        good: true,
-        sheet: sheet,
-    }
+        corners,
+    })
 }

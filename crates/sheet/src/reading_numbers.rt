@@ -1,107 +1,79 @@
-// The leaves of a sheet at a place of its bytes: a byte, a word, a number in hex or decimal.
-ghost use Rattle.std.specs.Prelude.{◌≡◌, ◌<◌};
-ghost use Rattle.sheet.specs.Lent.{bytes_from};
-ghost use Rattle.sheet.specs.Readers.{mark_of, word_of, digit_at, hex_of, decimal_from, decimal_of, spot_seen, number_seen};
+// The leaves of a sheet: a byte, a word, a number in hex or decimal.
+ghost use Rattle.std.specs.Prelude.{◌≡◌, ◌<◌, ◌≤◌};
+ghost use Rattle.sheet.specs.Readers.{mark_of, word_of, digit_of, hex_of, decimal_from, decimal_of, seen, Kept};
 
-// The place past what was read.
+// The bytes that are still to be read. Where a method answers None, they say nothing.
 #[derive(Clone, Copy)]
-pub enum Spot {
-    At(usize),
-    Not,
+pub(crate) struct Cursor<'a> {
+    pub rest: &'a [u8],
 }
 
-// What was read, and the place past it.
-#[derive(Clone, Copy)]
-pub enum Number {
-    Of(u32, usize),
-    Not,
-}
-
-pub(crate) fn mark(bytes: &[u8], at: usize, byte: u8) -> Spot
-    ensures { spot_seen bytes.now result ≡ mark_of byte (bytes_from bytes at) }
-{
-    if at < bytes.len() {
-        if bytes[at] == byte {
-            return Spot::At(at + 1);
+impl<'a> Cursor<'a> {
+    #[tactic(auto, unfolding(crate::specs::Readers::mark_of))]
+    pub(crate) fn mark(&mut self, byte: u8) -> Option<()>
+        ensures { seen self.new.rest.now result ≡ mark_of byte self.old.rest.now }
+    {
+        let (first, rest) = self.rest.split_first()?;
+        if *first != byte {
+            return None;
         }
+        self.rest = rest;
+        Some(())
     }
-    Spot::Not
-}
 
-pub(crate) fn word(bytes: &[u8], at: usize, text: &[u8]) -> Spot
-    ensures { spot_seen bytes.now result ≡ word_of text.now (bytes_from bytes at) }
-{
-    let mut here = at;
-    let mut i = 0;
-    while i < text.len() {
-        let Spot::At(next) = mark(bytes, here, text[i]) else {
-            return Spot::Not;
-        };
-        here = next;
-        i += 1;
+    pub(crate) fn word(&mut self, text: &[u8]) -> Option<()>
+        ensures { seen self.new.rest.now result ≡ word_of text.now self.old.rest.now }
+    {
+        self.rest = self.rest.strip_prefix(text)?;
+        Some(())
     }
-    Spot::At(here)
-}
 
-// At the end of the bytes there is no digit.
-fn digit_at(bytes: &[u8], at: usize) -> u8
-    ensures { result ≡ digit_at (bytes_from bytes at) }
-{
-    if at < bytes.len() {
-        return patterns::digit_value(bytes[at]);
-    }
-    16
-}
-
-pub(crate) fn hex(bytes: &[u8], at: usize) -> Number
-    ensures { number_seen bytes.now result ≡ hex_of (bytes_from bytes at) }
-{
-    let mut value: u32 = 0;
-    let mut here = at;
-    let mut k: usize = 0;
-    while k < 8 {
-        let d = digit_at(bytes, here);
-        if 16 <= d {
-            return Number::Not;
+    // The next byte, where it is a digit in this base.
+    #[tactic(auto, unfolding(crate::specs::Readers::digit_at))]
+    fn digit(&mut self, base: u8) -> Option<u8>
+        requires { base ≤ 16 }
+        ensures digit { seen self.new.rest.now result ≡ digit_of base self.old.rest.now }
+        ensures kept { Kept result self.old.rest.now self.new.rest.now }
+    {
+        let (first, rest) = self.rest.split_first()?;
+        let d = patterns::digit_value(*first);
+        if base <= d {
+            return None;
         }
-        value = value * 16 + (d as u32);
-        here += 1;
-        k += 1;
+        self.rest = rest;
+        Some(d)
     }
-    Number::Of(value, here)
-}
 
-// The digits after the first, which was not 0.
-fn decimal_from(bytes: &[u8], at: usize, first: u32) -> Number
-    ensures { number_seen bytes.now result ≡ decimal_from first (bytes_from bytes at) }
-{
-    let mut value = first;
-    let mut here = at;
-    while here < bytes.len() {
-        let d = patterns::digit_value(bytes[here]);
-        if 10 <= d {
-            return Number::Of(value, here);
+    pub(crate) fn hex(&mut self) -> Option<u32>
+        ensures { seen self.new.rest.now result ≡ hex_of self.old.rest.now }
+    {
+        let mut value = 0;
+        for _k in 0..8u32 {
+            value = value * 16 + u32::from(self.digit(16)?);
         }
-        let more = (value as u64) * 10 + (d as u64);
-        if 4294967296 <= more {
-            return Number::Not;
-        }
-        value = more as u32;
-        here += 1;
+        Some(value)
     }
-    Number::Of(value, here)
-}
 
-// A first 0 is the whole number: a digit after it is no newline.
-pub(crate) fn decimal(bytes: &[u8], at: usize) -> Number
-    ensures { number_seen bytes.now result ≡ decimal_of (bytes_from bytes at) }
-{
-    let first = digit_at(bytes, at);
-    if 10 <= first {
-        return Number::Not;
+    // The digits after the first, which was not 0.
+    fn decimal_from(&mut self, first: u32) -> Option<u32>
+        ensures { seen self.new.rest.now result ≡ decimal_from first self.old.rest.now }
+    {
+        let mut value = first;
+        while let Some(d) = self.digit(10) {
+            value = value.checked_mul(10)?.checked_add(u32::from(d))?;
+        }
+        Some(value)
     }
-    if first == 0 {
-        return Number::Of(0, at + 1);
+
+    // A first 0 is the whole number: a digit after it is no newline.
+    #[tactic(auto, unfolding(crate::specs::Readers::decimal_of))]
+    pub(crate) fn decimal(&mut self) -> Option<u32>
+        ensures { seen self.new.rest.now result ≡ decimal_of self.old.rest.now }
+    {
+        let first = self.digit(10)?;
+        if first == 0 {
+            return Some(0);
+        }
+        self.decimal_from(u32::from(first))
     }
-    decimal_from(bytes, at + 1, first as u32)
 }

@@ -1,80 +1,74 @@
-// The lines of a text, each written after what is there already. Every function answers where its
-// text ends.
-ghost use Rattle.std.specs.Prelude.{◌*◌, ◌≤◌, ◌<◌, length};
-ghost use Rattle.sheet.specs.Digits.{heading};
+// The lines of a text, each written after what is there already.
+ghost use Rattle.std.specs.Prelude.{ℕ, ◌<◌, ◌++◌, List, length};
+ghost use Rattle.sheet.specs.Digits.{hex_digits, decimal, heading};
 ghost use Rattle.sheet.specs.Lent.{Puts, RoomFor};
-ghost use Rattle.sheet.specs.Meshes.{float_word, index_word, float_lines, index_lines, floats_text, indices_text};
+ghost use Rattle.sheet.specs.Meshes.{lines};
+ghost use Rattle.patterns.specs.Patterns.{bits_of};
 
 use crate::digits::gap;
-use crate::writing_numbers;
+use crate::writing_numbers::Text;
 
-pub(crate) fn put_heading(out: &mut [u8], at: usize, word: &[u8], n: usize) -> usize
-    requires { RoomFor out at (heading word.now n) }
-    ensures { Puts out at (heading word.now n) result }
-{
-    let a = writing_numbers::put_word(out, at, word);
-    let b = writing_numbers::put_decimal(out, a, n);
-    writing_numbers::put_byte(out, b, b'\n')
+// A number of a mesh's lists, as a text has it.
+pub(crate) trait Printed: Copy {
+    ghost word: { Self → List ℕ };
+
+    fn put(self, text: &mut Text<'_>)
+        requires { RoomFor text.old (word self) }
+        ensures { Puts text.old (word self) text.new };
 }
 
-fn put_float(out: &mut [u8], at: usize, numbers: &[f32], width: usize, k: usize) -> usize
-    requires { (0 < width) × (k < length numbers.now) × RoomFor out at (float_word numbers.now width k) }
-    ensures { Puts out at (float_word numbers.now width k) result }
-{
-    let a = writing_numbers::put_hex(out, at, patterns::pattern(numbers[k]));
-    writing_numbers::put_byte(out, a, gap(width, k))
-}
+impl Printed for f32 {
+    ghost word = { λ x. hex_digits (bits_of x) };
 
-fn put_index(out: &mut [u8], at: usize, indices: &[u16], k: usize) -> usize
-    requires { (k < length indices.now) × RoomFor out at (index_word indices.now k) }
-    ensures { Puts out at (index_word indices.now k) result }
-{
-    let a = writing_numbers::put_decimal(out, at, indices[k] as usize);
-    writing_numbers::put_byte(out, a, gap(3, k))
-}
-
-fn put_float_lines(out: &mut [u8], at: usize, numbers: &[f32], width: usize, n: usize) -> usize
-    requires { (0 < width) × (n ≤ length numbers.now) × RoomFor out at (float_lines numbers.now width n) }
-    ensures { Puts out at (float_lines numbers.now width n) result }
-{
-    let mut here = at;
-    for k in 0usize..n {
-        here = put_float(out, here, numbers, width, k);
+    fn put(self, text: &mut Text<'_>) {
+        text.put_hex(patterns::pattern(self));
     }
-    here
 }
 
-fn put_index_lines(out: &mut [u8], at: usize, indices: &[u16], n: usize) -> usize
-    requires { (n ≤ length indices.now) × RoomFor out at (index_lines indices.now n) }
-    ensures { Puts out at (index_lines indices.now n) result }
-{
-    let mut here = at;
-    for k in 0usize..n {
-        here = put_index(out, here, indices, k);
+impl Printed for u16 {
+    ghost word = { decimal };
+
+    fn put(self, text: &mut Text<'_>) {
+        text.put_decimal(self as usize);
     }
-    here
 }
 
-// A heading with the vertex count, and so many numbers of each vertex to a line.
-pub(crate) fn put_floats(
-    out: &mut [u8],
-    at: usize,
-    word: &[u8],
-    numbers: &[f32],
-    width: usize,
-    v: usize,
-) -> usize
-    requires { (0 < width) × (width * v ≤ length numbers.now) × RoomFor out at (floats_text word.now numbers.now width v) }
-    ensures { Puts out at (floats_text word.now numbers.now width v) result }
-{
-    let a = put_heading(out, at, word, v);
-    put_float_lines(out, a, numbers, width, width * v)
-}
+impl<'a> Text<'a> {
+    pub(crate) fn put_heading(&mut self, word: &[u8], n: usize)
+        requires { RoomFor self.old (heading word.now n) }
+        ensures { Puts self.old (heading word.now n) self.new }
+    {
+        self.put_word(word);
+        self.put_decimal(n);
+        self.put_byte(b'\n');
+    }
 
-pub(crate) fn put_indices(out: &mut [u8], at: usize, indices: &[u16], n: usize) -> usize
-    requires { (n ≤ length indices.now) × RoomFor out at (indices_text indices.now n) }
-    ensures { Puts out at (indices_text indices.now n) result }
-{
-    let a = put_heading(out, at, b"indices ", n);
-    put_index_lines(out, a, indices, n)
+    // Numbers, so many to a line.
+    fn put_lines<T: Printed>(&mut self, numbers: &[T], width: usize)
+        requires line { 0 < width }
+        requires room { (d : T) → RoomFor self.old (lines T.word d numbers.now width (length numbers.now)) }
+        ensures { (d : T) → Puts self.old (lines T.word d numbers.now width (length numbers.now)) self.new }
+    {
+        for (k, number) in numbers.iter().enumerate() {
+            number.put(self);
+            self.put_byte(gap(width, k));
+        }
+    }
+
+    // A heading with a count, and the numbers.
+    pub(crate) fn put_part<T: Printed>(
+        &mut self,
+        word: &[u8],
+        n: usize,
+        numbers: &[T],
+        width: usize,
+    )
+        requires line { 0 < width }
+        requires heading { RoomFor self.old (heading word.now n) }
+        requires room { (d : T) → RoomFor self.old (heading word.now n ++ lines T.word d numbers.now width (length numbers.now)) }
+        ensures { (d : T) → Puts self.old (heading word.now n ++ lines T.word d numbers.now width (length numbers.now)) self.new }
+    {
+        self.put_heading(word, n);
+        self.put_lines(numbers, width);
+    }
 }

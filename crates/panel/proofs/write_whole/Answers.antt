@@ -1,5 +1,4 @@
 -- `write_whole`: no answer is longer than the room. Assumes nothing.
-use borrow.Author.Rules.{rules}
 use Rattle.sheet.proofs.Most.{answer-whole}
 use Rattle.panel.proofs.write_whole.Goals as goal
 

@@ -1,18 +1,11 @@
+-- `digit_count`: the digits are counted by the powers of ten. Assumes nothing.
+use mathlib.Core.Path.{sym}
 use native.Mathlib.Omega.{arith}
-use Rattle.sheet.proofs.Numerals.{count_small, count-more, count_most}
+use Rattle.sheet.proofs.Numerals.{count-between, count_small}
 use Rattle.sheet.proofs.digits.digit_count.Goals as goal
 
-pub loop-rest-init : goal.loop-rest-init
-loop-rest-init c = (omega arith, omega arith)
+pub returns-in-Some-clause-count : goal.returns-in-Some-clause-count
+returns-in-Some-clause-count c = count-between _ _ c.in-Some.ensures.power_le c.in-Some.ensures.next_power_gt
 
-pub overflow_add-many : goal.overflow_add-many
-overflow_add-many c = omega arith
-
-pub loop-rest-smaller : goal.loop-rest-smaller
-loop-rest-smaller c = omega arith
-
-pub loop-rest-preserved : goal.loop-rest-preserved
-loop-rest-preserved c = (omega arith, omega (arith, count-more _ c.loop-rest-test.true))
-
-pub returns : goal.returns
-returns c = (omega (arith, count_small _ c.loop-rest-test.false), omega (arith, count_small _ c.loop-rest-test.false, count_most c.args.n (omega arith)))
+pub returns-in-None-clause-count : goal.returns-in-None-clause-count
+returns-in-None-clause-count c = let e = c.in-None.ensures.none in rw e (sym (count_small 0 (omega arith)))

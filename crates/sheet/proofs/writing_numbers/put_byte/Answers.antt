@@ -1,7 +1,0 @@
--- `put_byte`: one store. Assumes nothing.
-use mathlib.Core.Path.{refl, sym}
-use Rattle.buffers.proofs.Laid.{laid_one}
-use Rattle.sheet.proofs.writing_numbers.put_byte.Goals as goal
-
-pub returns : goal.returns
-returns c = record { buffer = sym (laid_one _ _ _); ends = refl }
