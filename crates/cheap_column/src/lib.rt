@@ -181,14 +181,7 @@ pub fn build(
         uvs.len(),
         indices.len(),
     )?;
-    put(
-        job,
-        corners_of(corners),
-        vertices,
-        normals,
-        uvs,
-        indices,
-    );
+    put(job, corners_of(corners), vertices, normals, uvs, indices);
     Ok(whole)
 }
 
@@ -212,13 +205,6 @@ pub fn face(
         uvs.len(),
         indices.len(),
     )?;
-    put(
-        job,
-        corners_of(corners),
-        vertices,
-        normals,
-        uvs,
-        indices,
-    );
+    put(job, corners_of(corners), vertices, normals, uvs, indices);
     Ok(whole)
 }

@@ -179,9 +179,7 @@ pub fn why(
         cell,
         side,
     )?;
-    let wall = heightmap::grid::wall_at(
-        sides, job.fringe, cells, neighbours, fringe, cell, d,
-    );
+    let wall = heightmap::grid::wall_at(sides, job.fringe, cells, neighbours, fringe, cell, d);
     Ok((counts, reason_by(wall, placed.number)))
 }
 

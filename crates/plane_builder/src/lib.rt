@@ -74,12 +74,7 @@ pub fn plan(job: Plane, corners: &[f32], numbers: &[f32], marks: &[u8]) -> Answe
 }
 
 // How many faces the job has, or why it is refused.
-pub fn faces(
-    job: Plane,
-    corners: &[f32],
-    numbers: &[f32],
-    marks: &[u8],
-) -> Result<Faces, Refusal>
+pub fn faces(job: Plane, corners: &[f32], numbers: &[f32], marks: &[u8]) -> Result<Faces, Refusal>
     ensures { result ≡ faces_told job (lent corners numbers marks) }
 {
     mesh::windows::faces_if_done(plan(job, corners, numbers, marks), 1)
