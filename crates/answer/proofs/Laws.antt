@@ -4,9 +4,9 @@ use mathlib.Core.Logic.{◌⊎◌, ⊎_elim, inl, inr}
 use mathlib.Core.Bool.{Bool, true, false, not, ◌&&◌, cond}
 use mathlib.Core.List.{List, [], ◌∷◌, ◌++◌}
 use Prim.Native.Nat.{ℕ, zero, suc, ◌+◌, ◌*◌, ◌/◌, ◌%◌, ◌≤◌, ◌<◌}
-use native.Mathlib.Nat.{le_trans, mul-le-mul, le-div_iff_mul-le, div-lt_iff_lt-mul, mul_comm, mul-mod_left}
+use native.Mathlib.Nat.{le_trans, mul-le-mul, le-div_iff_mul-le, div-lt_iff_lt-mul, div-add-mod', mul_comm, add-zero, div-eq_of_eq-mul_left, mul-mod_left}
 use native.Mathlib.Omega.{arith}
-use borrow.Author.Tests.{le-leb, lt-leb, leb-true, leb-false, ne_eqb, eqb-true, eqb-false, ltb-true}
+use borrow.Author.Tests.{le-leb, lt-leb, leb-true, leb-false, eq-eqb, ne_eqb, eqb-true, eqb-false, ltb-true}
 use lib.Dec.{T, leb, ltb, eqb, lit≤, lit<, ltb→lt, nltb→le}
 use lib.ListN.{length, get_or}
 use Rattle.face.specs.declared.triangle.Counts.{Counts}
@@ -70,6 +70,13 @@ module _ (k a b : ℕ) (p : 0 < k) where
 
   pub short : b / k < a → leb (k * a) b ≡ false
   short h = rw mul_comm (sym quotient-tells ∙ lt-leb a (b / k) h)
+
+  pub fills-by : b % k ≡ 0 → eqb (b / k) a ≡ eqb b (a * k)
+  fills-by z = go (eqb (b / k) a) refl
+    where
+      go : (x : Bool) → eqb (b / k) a ≡ x → x ≡ eqb b (a * k)
+      go true e = sym (eq-eqb b (a * k) (rw (eqb-true (b / k) a e, z, add-zero) at (sym (div-add-mod' b k))))
+      go false e = sym (ne_eqb b (a * k) (λ f. eqb-false (b / k) a e (div-eq_of_eq-mul_left p f)))
 
   pub fills-not : (b % k ≡ 0 → ⊥) → eqb b (a * k) ≡ false
   fills-not z = ne_eqb b (a * k) (λ e. z (rw e (mul-mod_left a k)))
