@@ -46,7 +46,7 @@ pub adding-more : {A : Type 0} (plus : A → A → A) (none : A) (g : ℕ → A)
 adding-more plus none g k t e = rw (e, add-one k, foldl-append)
 
 -- the sum over how many they are is their middle
-mean-middle : {A : Type 0} (plus : A → A → A) (none : A) (over : A → Float → A) (g : ℕ → A) (m : ℕ) (t x : A) → t ≡ foldl plus none (each g m) → x ≡ over t (of_int binary32 (pos m)) → x ≡ middle plus none over (each g m)
+pub mean-middle : {A : Type 0} (plus : A → A → A) (none : A) (over : A → Float → A) (g : ℕ → A) (m : ℕ) (t x : A) → t ≡ foldl plus none (each g m) → x ≡ over t (of_int binary32 (pos m)) → x ≡ middle plus none over (each g m)
 mean-middle plus none over g m t x e h = h ∙ rw (e, length-each g m)
 
 -- ---- what a done answer says: the counts are those given, can be numbered, and fit
@@ -79,9 +79,8 @@ module _ (c : Counts) (B : Buffers) where
   moved new good d e = rw e (ap new (sym (stored-done good d e).same))
 
   -- ---- a done centroid is the middle, and the counts are those given
-  module _ {A : Type 0} (plus : A → A → A) (none : A) (over : A → Float → A) (g : ℕ → A) where
-    pub centred : {d : Counts} {t x : A} → centroid_answer c B ≡ Ok d → t ≡ foldl plus none (each g d.vertices.0) → x ≡ over t (of_int binary32 (pos d.vertices.0))
-        → Ok (record { counts = d; centroid = x }) ≡ middle_by (centroid_answer c B) (middle plus none over (each g c.vertices.0))
-    centred {d} k s m =
-        let same = (stored-done true d (not_empty-done (answer_of c true B) d k).0).same in
-        rw (k, mean-middle plus none over g d.vertices.0 _ _ s m, same)
+  pub centred : {A : Type 0} (middle : ℕ → A) {d : Counts} {x : A} → centroid_answer c B ≡ Ok d → x ≡ middle d.vertices.0
+      → Ok (record { counts = d; centroid = x }) ≡ middle_by (centroid_answer c B) (middle c.vertices.0)
+  centred middle {d} k m =
+      let same = (stored-done true d (not_empty-done (answer_of c true B) d k).0).same in
+      rw (k, m, same)

@@ -89,12 +89,6 @@ texture_scaled c by B = after (texture_scale_answer c by B) B (four B.vertices B
 
 -- ---- M8, M9: the centroids; they have no parameter, so no 2
 
-abbrev pub mean_of3 : Vec3 → ℕ → Vec3
-mean_of3 t m = over3 t (of_int binary32 (pos m))
-
-abbrev pub mean_of2 : Vec2 → ℕ → Vec2
-mean_of2 t m = over2 t (of_int binary32 (pos m))
-
 abbrev pub centroid_answer : Counts → Buffers → Answer
 centroid_answer c B = not_empty (answer_of c true B)
 

@@ -7,9 +7,9 @@ ghost use Rattle.face.specs.Vec.{v2, v3};
 ghost use Rattle.buffers.specs.Laying.{three, two, laid};
 ghost use Rattle.mesh.specs.Stored.{point_from, uv_from};
 
-use face::vec::{Vec2, Vec3};
+use face::vec::{Point, Vec2, Vec3};
 
-pub(crate) trait Packed: Copy {
+pub(crate) trait Packed: Point {
     ghost SIZE: { ℕ };
 
     ghost read: { List Float → ℕ → Self };

@@ -2,10 +2,11 @@
 // parameter is tested. A list may be longer than its count says.
 ghost use Rattle.std.specs.Prelude.{◌≡◌, ◌+◌, ◌*◌, ◌≤◌, length};
 ghost use mathlib.Core.List.{foldl};
-ghost use Rattle.face.specs.Lists.{each, chain};
+ghost use Rattle.face.specs.Lists.{chain, each};
+ghost use Rattle.face.specs.Vec.{middle};
 ghost use Rattle.buffers.specs.Laying.{laid, four};
 ghost use Rattle.buffers.specs.Lent.{shown};
-ghost use Rattle.mesh.specs.Stored.{holds_counts, stored_answer, not_empty, scaled, shifted, texture_scaled, scale_answer, offset_answer, texture_scale_answer, mean_of3, mean_of2, centroid_of, uv_centroid_of};
+ghost use Rattle.mesh.specs.Stored.{holds_counts, stored_answer, not_empty, scaled, shifted, texture_scaled, scale_answer, offset_answer, texture_scale_answer, centroid_of, uv_centroid_of};
 
 use crate::put::Packed;
 use answer::answer::{Answer, Refusal};
@@ -18,14 +19,6 @@ pub struct Middle<P> {
     pub counts: Counts,
     pub centroid: P,
 }
-
-const ORIGIN: Vec3 = Vec3 {
-    x: 0.0,
-    y: 0.0,
-    z: 0.0,
-};
-
-const CORNER: Vec2 = Vec2 { x: 0.0, y: 0.0 };
 
 // Whether lists of these lengths hold what the counts say.
 pub fn holds_counts(
@@ -82,17 +75,24 @@ fn move_each<P: Packed, F: Fn(P) -> P>(buffer: &mut [f32], m: usize, to: F)
     }
 }
 
-// From the first on.
-fn sum<P: Packed, F: Fn(P, P) -> P>(buffer: &[f32], m: usize, zero: P, add: F) -> P
-    requires callable { F.IsAlwaysCallable add }
-    requires room { P.SIZE * m ≤ length buffer.now }
-    ensures { (plus : P → P → P) → ((p q r : P) → F.post add p q r → r ≡ plus p q) → result ≡ foldl plus zero (each (λ k. P.read buffer.now (P.SIZE * k)) m) }
+// From the first on, onto +0.
+fn sum<P: Packed>(buffer: &[f32], m: usize) -> P
+    requires { P.SIZE * m ≤ length buffer.now }
+    ensures { result ≡ foldl P.plus P.zero (each (λ k. P.read buffer.now (P.SIZE * k)) m) }
 {
-    let mut total = zero;
+    let mut total = P::zero();
     for k in 0..m {
-        total = add(total, P::read(buffer, P::SIZE * k));
+        total = total + P::read(buffer, P::SIZE * k);
     }
     total
+}
+
+fn mean<P: Packed>(buffer: &[f32], m: usize) -> P
+    requires few { m ≤ 65536 }
+    requires room { P.SIZE * m ≤ length buffer.now }
+    ensures { result ≡ middle P.plus P.zero P.over (each (λ k. P.read buffer.now (P.SIZE * k)) m) }
+{
+    sum::<P>(buffer, m) / std::num::nearest_u32_to_f32(m as u32)
 }
 
 // Multiplies each position, component by component; normals stay.
@@ -185,29 +185,6 @@ pub fn texture_scale(
     Ok(done)
 }
 
-fn mean3(t: Vec3, m: usize) -> Vec3
-    requires { m ≤ 65536 }
-    ensures { result ≡ mean_of3 t m }
-{
-    let n = std::num::nearest_u32_to_f32(m as u32);
-    Vec3 {
-        x: t.x / n,
-        y: t.y / n,
-        z: t.z / n,
-    }
-}
-
-fn mean2(t: Vec2, m: usize) -> Vec2
-    requires { m ≤ 65536 }
-    ensures { result ≡ mean_of2 t m }
-{
-    let n = std::num::nearest_u32_to_f32(m as u32);
-    Vec2 {
-        x: t.x / n,
-        y: t.y / n,
-    }
-}
-
 // The middle of the positions: their sum, from +0 in order, over their number.
 pub fn centroid(
     counts: Counts,
@@ -226,10 +203,9 @@ pub fn centroid(
         uvs.len(),
         indices.len(),
     ))?;
-    let m = done.vertices.0;
     Ok(Middle {
         counts: done,
-        centroid: mean3(sum(vertices, m, ORIGIN, |a: Vec3, b| a + b), m),
+        centroid: mean(vertices, done.vertices.0),
     })
 }
 
@@ -251,9 +227,8 @@ pub fn uv_centroid(
         uvs.len(),
         indices.len(),
     ))?;
-    let m = done.vertices.0;
     Ok(Middle {
         counts: done,
-        centroid: mean2(sum(uvs, m, CORNER, |a: Vec2, b| a + b), m),
+        centroid: mean(uvs, done.vertices.0),
     })
 }

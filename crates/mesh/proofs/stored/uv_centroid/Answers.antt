@@ -1,6 +1,7 @@
--- `uv_centroid`: the sum over its number is the middle. Assumes nothing.
+-- `uv_centroid`: the mean is the middle, where the answer is done. Assumes nothing.
 use Rattle.std.proofs.Common.{rules, ◌*◌}
-use Rattle.face.specs.Vec.{plus2, zero2, over2}
+use Rattle.face.specs.Lists.{each}
+use Rattle.face.specs.Vec.{middle2}
 use Rattle.buffers.specs.Laying.{four}
 use Rattle.mesh.specs.Stored.{uv_from}
 use Rattle.mesh.proofs.Moving.{centred}
@@ -8,4 +9,4 @@ use Rattle.mesh.proofs.stored.uv_centroid.Goals as goal
 
 pub returns : goal.returns
 returns c = let a = c.args in
-    centred a.counts (four a.vertices.now a.normals.now a.uvs.now a.indices.now) plus2 zero2 over2 (λ j. uv_from a.uvs.now (2 * j)) (search rules) (c.sum.ensures plus2 (λ p q r k. search rules)) c.mean2.ensures
+    centred a.counts (four a.vertices.now a.normals.now a.uvs.now a.indices.now) (λ m. middle2 (each (λ j. uv_from a.uvs.now (2 * j)) m)) (search rules) c.mean.ensures
