@@ -1,5 +1,5 @@
-// What a caller hands over by value. Where something may be left out, a bool says whether it is
-// given; what stands beside a bool that says no is not read.
+// What a caller hands over by value. C has no Option: where something may be left out, a bool says
+// whether it is given; what stands beside a bool that says no is not read.
 ghost use Rattle.std.specs.Prelude.{◌≡◌};
 ghost use Rattle.boundary.specs.FromC.{vec2_of, vec3_of, counts_in, choice3_of, turn_of, placement_of, uv_options_of};
 
@@ -119,7 +119,11 @@ impl From<CTurn> for Turn {
 
     fn from(t: CTurn) -> Turn {
         if t.given {
-            Turn::Rows(Vec3::from(t.first), Vec3::from(t.second), Vec3::from(t.third))
+            Turn::Rows(
+                Vec3::from(t.first),
+                Vec3::from(t.second),
+                Vec3::from(t.third),
+            )
         } else {
             Turn::Absent
         }

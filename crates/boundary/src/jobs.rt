@@ -7,8 +7,8 @@ use crate::from_c::{CPlacement, CVec2};
 use answer::answer::Refusal;
 use cheap_column::CheapColumn;
 use column::{Column, Side, Subdivisions};
-use heightmap::{Customs, Fringe, HeightMap, HeightRange, Origin};
 use face::vec::Vec2;
+use heightmap::{Customs, Fringe, HeightMap, HeightRange, Origin};
 use placement::options::Choice;
 use placement::placement::Placement;
 use plane_builder::Plane;
@@ -70,7 +70,8 @@ pub struct COrigin {
     pub at: CVec2,
 }
 
-// The fringe is 1, no heights beyond the edge, or 2, heights that are listed. Whether customs are listed is a bool.
+// C's enums are numbers: the fringe is 1, no heights beyond the edge, or 2, heights that are listed. Whether customs are
+// listed is a bool.
 #[repr(C)]
 #[derive(Clone, Copy)]
 pub struct CHeightMap {
@@ -180,8 +181,7 @@ impl From<COrigin> for Origin {
     }
 }
 
-// A function: neither the trait, u8 nor Fringe is of this crate, so there can be no impl. Where a fringe has no meaning
-// the job is refused.
+// A fringe that has no meaning is refused. A function, as a foreign trait can have no impl for two foreign types.
 fn fringe_of(mark: u8) -> Result<Fringe, Refusal>
     ensures { result ≡ fringe_told mark }
 {
@@ -192,7 +192,7 @@ fn fringe_of(mark: u8) -> Result<Fringe, Refusal>
     }
 }
 
-// A function, as there can be no impl for bool and Customs.
+// A function, as a foreign trait can have no impl for two foreign types.
 fn customs_of(listed: bool) -> Customs
     ensures { result ≡ customs_of listed }
 {

@@ -27,11 +27,7 @@ pub fn hosirekar_cheap_column_faces(job: CCheapColumn, corners: &[f32]) -> CFace
 pub fn hosirekar_cheap_column_window(job: CCheapColumn, corners: &[f32], number: usize) -> CWindow
     ensures { result ≡ window_to_c (window_told (cheap_column_of job) corners.now number) }
 {
-    CWindow::from(cheap_column::window(
-        CheapColumn::from(job),
-        corners,
-        number,
-    ))
+    CWindow::from(cheap_column::window(CheapColumn::from(job), corners, number))
 }
 
 // The whole job, written to four buffers, or nothing.

@@ -21,13 +21,7 @@ pub fn hosirekar_column_plan(
 ) -> CAnswer
     ensures { result ≡ answer_to_c (planned (column_of job) (lent pairs corners numbers marks)) }
 {
-    CAnswer::from(column_builder::plan(
-        Column::from(job),
-        pairs,
-        corners,
-        numbers,
-        marks,
-    ))
+    CAnswer::from(column_builder::plan(Column::from(job), pairs, corners, numbers, marks))
 }
 
 // How many faces the job has, or why it is refused.
@@ -40,13 +34,7 @@ pub fn hosirekar_column_faces(
 ) -> CFaces
     ensures { result ≡ faces_to_c (faces_told (column_of job) (lent pairs corners numbers marks)) }
 {
-    CFaces::from(column::window::faces(
-        Column::from(job),
-        pairs,
-        corners,
-        numbers,
-        marks,
-    ))
+    CFaces::from(column::window::faces(Column::from(job), pairs, corners, numbers, marks))
 }
 
 // The places of one face of the job, by its number, or why there are none.
@@ -60,14 +48,7 @@ pub fn hosirekar_column_window(
 ) -> CWindow
     ensures { result ≡ window_to_c (window_told (column_of job) (lent pairs corners numbers marks) number) }
 {
-    CWindow::from(column::window::window(
-        Column::from(job),
-        pairs,
-        corners,
-        numbers,
-        marks,
-        number,
-    ))
+    CWindow::from(column::window::window(Column::from(job), pairs, corners, numbers, marks, number))
 }
 
 // The whole job, written to four buffers, or nothing.

@@ -22,14 +22,7 @@ pub fn hosirekar_stl_write(
     ensures answer { result ≡ file_to_c (file_answer (counts_in counts) (shown vertices normals uvs indices) (length bytes.old)) }
     ensures bytes { bytes.new ≡ written (counts_in counts) (shown vertices normals uvs indices) bytes.old }
 {
-    CFile::from(stl_writing::write(
-        Counts::from(counts),
-        vertices,
-        normals,
-        uvs,
-        indices,
-        bytes,
-    ))
+    CFile::from(stl_writing::write(Counts::from(counts), vertices, normals, uvs, indices, bytes))
 }
 
 // Reads the mesh of a file, or writes nothing.

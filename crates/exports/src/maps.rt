@@ -26,14 +26,7 @@ pub fn hosirekar_heightmap_plan(
 {
     CAnswer::from(HeightMap::try_from(job).and_then(|job| {
         heightmap_builder::plan(
-            job,
-            cells,
-            neighbours,
-            fringe,
-            customs,
-            corners,
-            numbers,
-            marks,
+            job, cells, neighbours, fringe, customs, corners, numbers, marks,
         )
     }))
 }
@@ -53,14 +46,7 @@ pub fn hosirekar_heightmap_faces(
 {
     CFaces::from(HeightMap::try_from(job).and_then(|job| {
         heightmap_plan::window::faces(
-            job,
-            cells,
-            neighbours,
-            fringe,
-            customs,
-            corners,
-            numbers,
-            marks,
+            job, cells, neighbours, fringe, customs, corners, numbers, marks,
         )
     }))
 }
@@ -81,15 +67,7 @@ pub fn hosirekar_heightmap_window(
 {
     CWindow::from(HeightMap::try_from(job).and_then(|job| {
         heightmap_plan::window::window(
-            job,
-            cells,
-            neighbours,
-            fringe,
-            customs,
-            corners,
-            numbers,
-            marks,
-            number,
+            job, cells, neighbours, fringe, customs, corners, numbers, marks, number,
         )
     }))
 }
@@ -112,16 +90,7 @@ pub fn hosirekar_heightmap_why(
 {
     CWhy::from(HeightMap::try_from(job).and_then(|job| {
         heightmap_why::why(
-            job,
-            cells,
-            neighbours,
-            fringe,
-            customs,
-            corners,
-            numbers,
-            marks,
-            cell,
-            side,
+            job, cells, neighbours, fringe, customs, corners, numbers, marks, cell, side,
         )
     }))
 }
@@ -142,15 +111,7 @@ pub fn hosirekar_heightmap_which(
 {
     CWhich::from(HeightMap::try_from(job).and_then(|job| {
         heightmap_why::which(
-            job,
-            cells,
-            neighbours,
-            fringe,
-            customs,
-            corners,
-            numbers,
-            marks,
-            number,
+            job, cells, neighbours, fringe, customs, corners, numbers, marks, number,
         )
     }))
 }
@@ -175,18 +136,8 @@ pub fn hosirekar_heightmap_build(
 {
     match HeightMap::try_from(job) {
         Ok(job) => CAnswer::from(heightmap_builder::build(
-            job,
-            cells,
-            neighbours,
-            fringe,
-            customs,
-            corners,
-            numbers,
-            marks,
-            vertices,
-            normals,
-            uvs,
-            indices,
+            job, cells, neighbours, fringe, customs, corners, numbers, marks, vertices, normals,
+            uvs, indices,
         )),
         Err(why) => CAnswer::from(Err(why)),
     }
@@ -213,19 +164,8 @@ pub fn hosirekar_heightmap_face(
 {
     match HeightMap::try_from(job) {
         Ok(job) => CAnswer::from(heightmap_builder::face(
-            job,
-            cells,
-            neighbours,
-            fringe,
-            customs,
-            corners,
-            numbers,
-            marks,
-            number,
-            vertices,
-            normals,
-            uvs,
-            indices,
+            job, cells, neighbours, fringe, customs, corners, numbers, marks, number, vertices,
+            normals, uvs, indices,
         )),
         Err(why) => CAnswer::from(Err(why)),
     }

@@ -13,24 +13,14 @@ use plane_builder::Plane;
 pub fn hosirekar_plane_plan(job: CPlane, corners: &[f32], numbers: &[f32], marks: &[u8]) -> CAnswer
     ensures { result ≡ answer_to_c (planned (plane_of job) (lent corners numbers marks)) }
 {
-    CAnswer::from(plane_builder::plan(
-        Plane::from(job),
-        corners,
-        numbers,
-        marks,
-    ))
+    CAnswer::from(plane_builder::plan(Plane::from(job), corners, numbers, marks))
 }
 
 // How many faces the job has, or why it is refused.
 pub fn hosirekar_plane_faces(job: CPlane, corners: &[f32], numbers: &[f32], marks: &[u8]) -> CFaces
     ensures { result ≡ faces_to_c (faces_told (plane_of job) (lent corners numbers marks)) }
 {
-    CFaces::from(plane_builder::faces(
-        Plane::from(job),
-        corners,
-        numbers,
-        marks,
-    ))
+    CFaces::from(plane_builder::faces(Plane::from(job), corners, numbers, marks))
 }
 
 // The places of one face of the job, by its number, or why there are none.
@@ -43,13 +33,7 @@ pub fn hosirekar_plane_window(
 ) -> CWindow
     ensures { result ≡ window_to_c (window_told (plane_of job) (lent corners numbers marks) number) }
 {
-    CWindow::from(plane_builder::window(
-        Plane::from(job),
-        corners,
-        numbers,
-        marks,
-        number,
-    ))
+    CWindow::from(plane_builder::window(Plane::from(job), corners, numbers, marks, number))
 }
 
 // The whole job, written to four buffers, or nothing.

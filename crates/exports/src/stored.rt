@@ -87,13 +87,7 @@ pub fn hosirekar_centroid(
 ) -> CCentroid
     ensures { result ≡ centroid_to_c (centroid_of (counts_in counts) (shown vertices normals uvs indices)) }
 {
-    CCentroid::from(mesh::stored::centroid(
-        Counts::from(counts),
-        vertices,
-        normals,
-        uvs,
-        indices,
-    ))
+    CCentroid::from(mesh::stored::centroid(Counts::from(counts), vertices, normals, uvs, indices))
 }
 
 // The middle of the uvs.

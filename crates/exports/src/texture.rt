@@ -11,10 +11,7 @@ use face::vec::Vec2;
 pub fn hosirekar_alter_uv(options: CUvOptions, uv: CVec2) -> CVec2
     ensures { result ≡ point_to_c (altered (uv_options_of options) (vec2_of uv)) }
 {
-    CVec2::from(face::uv_mapping::alter_uv(
-        UvOptions::from(options),
-        Vec2::from(uv),
-    ))
+    CVec2::from(face::uv_mapping::alter_uv(UvOptions::from(options), Vec2::from(uv)))
 }
 
 pub fn hosirekar_wrap_uv(point: CVec2) -> CVec2
