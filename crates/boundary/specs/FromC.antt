@@ -1,5 +1,7 @@
 -- What a caller from C hands over, as the crates below take it. Definitions only.
-use Rattle.std.specs.Prelude.{ℕ, Bool, false, ◌||◌, cond, List, get_or, eqb}
+use Rattle.std.specs.Prelude.{ℕ, Bool, false, ◌||◌, cond, List, get_or, eqb, Result, Ok, Err}
+use Rattle.answer.specs.declared.answer.Refusal.{Refusal}
+use Rattle.answer.specs.declared.answer.Refusal.TheVariants.{Shape}
 use Rattle.face.specs.declared.vec.Vec2.{Vec2}
 use Rattle.face.specs.declared.vec.Vec3.{Vec3}
 use Rattle.face.specs.declared.triangle.Counts.{Counts}
@@ -111,6 +113,9 @@ is_fringe mark = eqb mark 1 || eqb mark 2
 abbrev pub fringe_of : ℕ → Fringe
 fringe_of mark = cond (eqb mark 2) fringe.Listed fringe.Bare
 
+abbrev pub fringe_told : ℕ → Result Fringe Refusal
+fringe_told mark = cond (is_fringe mark) (Ok (fringe_of mark)) (Err Shape)
+
 abbrev pub customs_of : Bool → Customs
 customs_of listed = cond listed customs.Listed customs.Absent
 
@@ -125,6 +130,9 @@ height_map_of job =
       placement = placement_of job.placement;
       origin = origin_of job.origin;
     }
+
+abbrev pub height_map_told : CHeightMap → Result HeightMap Refusal
+height_map_told job = cond (is_fringe job.fringe) (Ok (height_map_of job)) (Err Shape)
 
 -- ---- texture options
 abbrev pub uv_options_of : CUvOptions → UvOptions

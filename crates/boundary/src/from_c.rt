@@ -1,5 +1,5 @@
-// What a caller hands over by value. Where something may be left out, a bool says whether it is
-// given; what stands beside a bool that says no is not read.
+// What a caller hands over by value. C has no Option: where something may be left out, a bool says
+// whether it is given; what stands beside a bool that says no is not read.
 ghost use Rattle.std.specs.Prelude.{◌≡◌};
 ghost use Rattle.boundary.specs.FromC.{vec2_of, vec3_of, counts_in, choice3_of, turn_of, placement_of, uv_options_of};
 
@@ -9,14 +9,14 @@ use face::vec::{Vec2, Vec3};
 use placement::placement::{Choice3, Placement, Turn};
 
 #[repr(C)]
-#[derive(Clone, Copy)]
+#[derive(Clone, Copy, Default)]
 pub struct CVec2 {
     pub x: f32,
     pub y: f32,
 }
 
 #[repr(C)]
-#[derive(Clone, Copy)]
+#[derive(Clone, Copy, Default)]
 pub struct CVec3 {
     pub x: f32,
     pub y: f32,
@@ -71,82 +71,90 @@ pub struct CUvOptions {
     pub flip: CFlip,
 }
 
-pub fn vec2_of(p: CVec2) -> Vec2
-    ensures { result ≡ vec2_of p }
-{
-    Vec2 { x: p.x, y: p.y }
-}
+impl From<CVec2> for Vec2 {
+    ghost from_gives = { λ p made. made ≡ vec2_of p };
 
-pub fn vec3_of(p: CVec3) -> Vec3
-    ensures { result ≡ vec3_of p }
-{
-    Vec3 {
-        x: p.x,
-        y: p.y,
-        z: p.z,
+    fn from(p: CVec2) -> Vec2 {
+        Vec2 { x: p.x, y: p.y }
     }
 }
 
-pub fn counts_in(c: CCounts) -> Counts
-    ensures { result ≡ counts_in c }
-{
-    Counts {
-        vertices: VertexNumber(c.vertices),
-        indices: IndexPlace(c.indices),
+impl From<CVec3> for Vec3 {
+    ghost from_gives = { λ p made. made ≡ vec3_of p };
+
+    fn from(p: CVec3) -> Vec3 {
+        Vec3 {
+            x: p.x,
+            y: p.y,
+            z: p.z,
+        }
     }
 }
 
-fn choice3_of(c: CChoice3) -> Choice3
-    ensures { result ≡ choice3_of c }
-{
-    if c.given {
-        let value = vec3_of(c.value);
-        return Choice3::With(value);
-    }
-    Choice3::Absent
-}
+impl From<CCounts> for Counts {
+    ghost from_gives = { λ c made. made ≡ counts_in c };
 
-fn turn_of(t: CTurn) -> Turn
-    ensures { result ≡ turn_of t }
-{
-    if t.given {
-        let a = vec3_of(t.first);
-        let b = vec3_of(t.second);
-        let c = vec3_of(t.third);
-        return Turn::Rows(a, b, c);
-    }
-    Turn::Absent
-}
-
-pub(crate) fn placement_of(s: CPlacement) -> Placement
-    ensures { result ≡ placement_of s }
-{
-    let scale = choice3_of(s.scale);
-    let turn = turn_of(s.turn);
-    let offset = choice3_of(s.offset);
-    Placement {
-        scale: scale,
-        turn: turn,
-        offset: offset,
+    fn from(c: CCounts) -> Counts {
+        Counts {
+            vertices: VertexNumber(c.vertices),
+            indices: IndexPlace(c.indices),
+        }
     }
 }
 
-pub fn uv_options_of(o: CUvOptions) -> UvOptions
-    ensures { result ≡ uv_options_of o }
-{
-    let scale = vec2_of(o.scale);
-    let offset = vec2_of(o.offset);
-    let min = vec2_of(o.min);
-    let max = vec2_of(o.max);
-    let flip = Flip {
-        u: o.flip.u,
-        v: o.flip.v,
-    };
-    UvOptions {
-        scale: scale,
-        offset: offset,
-        min: min,
-        max: max,
-        flip: flip,
+impl From<CChoice3> for Choice3 {
+    ghost from_gives = { λ c made. made ≡ choice3_of c };
+
+    fn from(c: CChoice3) -> Choice3 {
+        if c.given {
+            Choice3::With(Vec3::from(c.value))
+        } else {
+            Choice3::Absent
+        }
+    }
+}
+
+impl From<CTurn> for Turn {
+    ghost from_gives = { λ t made. made ≡ turn_of t };
+
+    fn from(t: CTurn) -> Turn {
+        if t.given {
+            Turn::Rows(
+                Vec3::from(t.first),
+                Vec3::from(t.second),
+                Vec3::from(t.third),
+            )
+        } else {
+            Turn::Absent
+        }
+    }
+}
+
+impl From<CPlacement> for Placement {
+    ghost from_gives = { λ s made. made ≡ placement_of s };
+
+    fn from(s: CPlacement) -> Placement {
+        Placement {
+            scale: Choice3::from(s.scale),
+            turn: Turn::from(s.turn),
+            offset: Choice3::from(s.offset),
+        }
+    }
+}
+
+impl From<CUvOptions> for UvOptions {
+    ghost from_gives = { λ o made. made ≡ uv_options_of o };
+
+    fn from(o: CUvOptions) -> UvOptions {
+        UvOptions {
+            scale: Vec2::from(o.scale),
+            offset: Vec2::from(o.offset),
+            min: Vec2::from(o.min),
+            max: Vec2::from(o.max),
+            flip: Flip {
+                u: o.flip.u,
+                v: o.flip.v,
+            },
+        }
     }
 }

@@ -1,13 +1,16 @@
 // A job as a caller hands it over, beside its lists.
 ghost use Rattle.std.specs.Prelude.{◌≡◌};
-ghost use Rattle.boundary.specs.FromC.{plane_of, choice_of, side_of, sides_of, subdivisions_of, column_of, cheap_column_of};
-ghost use Rattle.boundary.specs.FromC.{range_of, is_fringe, fringe_of, customs_of, origin_of, height_map_of};
+ghost use Rattle.boundary.specs.FromC.{plane_of, choice_of, side_of, subdivisions_of, column_of, cheap_column_of};
+ghost use Rattle.boundary.specs.FromC.{range_of, fringe_told, customs_of, origin_of, height_map_told};
 
 use crate::from_c::{CPlacement, CVec2};
+use answer::answer::Refusal;
 use cheap_column::CheapColumn;
 use column::{Column, Side, Subdivisions};
+use face::vec::Vec2;
 use heightmap::{Customs, Fringe, HeightMap, HeightRange, Origin};
 use placement::options::Choice;
+use placement::placement::Placement;
 use plane_builder::Plane;
 
 #[repr(C)]
@@ -67,7 +70,8 @@ pub struct COrigin {
     pub at: CVec2,
 }
 
-// The fringe is 1, no heights beyond the edge, or 2, heights that are listed. Whether customs are listed is a bool.
+// C's enums are numbers: the fringe is 1, no heights beyond the edge, or 2, heights that are listed. Whether customs are
+// listed is a bool.
 #[repr(C)]
 #[derive(Clone, Copy)]
 pub struct CHeightMap {
@@ -80,151 +84,139 @@ pub struct CHeightMap {
     pub placement: CPlacement,
 }
 
-pub fn plane_of(job: CPlane) -> Plane
-    ensures { result ≡ plane_of job }
-{
-    let position = crate::from_c::vec2_of(job.position);
-    let placement = crate::from_c::placement_of(job.placement);
-    Plane {
-        position: position,
-        option: job.option,
-        placement: placement,
+impl From<CPlane> for Plane {
+    ghost from_gives = { λ job made. made ≡ plane_of job };
+
+    fn from(job: CPlane) -> Plane {
+        Plane {
+            position: Vec2::from(job.position),
+            option: job.option,
+            placement: Placement::from(job.placement),
+        }
     }
 }
 
-fn choice_of(c: CChoice) -> Choice
-    ensures { result ≡ choice_of c }
-{
-    if c.given {
-        return Choice::With(c.option);
-    }
-    Choice::Absent
-}
+impl From<CChoice> for Choice {
+    ghost from_gives = { λ c made. made ≡ choice_of c };
 
-fn side_of(c: CChoice) -> Side
-    ensures { result ≡ side_of c }
-{
-    let option = choice_of(c);
-    Side { option: option }
-}
-
-fn sides_of(sides: [CChoice; 6]) -> [Side; 6]
-    ensures { result ≡ sides_of sides }
-{
-    [
-        side_of(sides[0]),
-        side_of(sides[1]),
-        side_of(sides[2]),
-        side_of(sides[3]),
-        side_of(sides[4]),
-        side_of(sides[5]),
-    ]
-}
-
-fn subdivisions_of(s: CSubdivisions) -> Subdivisions
-    ensures { result ≡ subdivisions_of s }
-{
-    if s.given {
-        return Subdivisions::Of(s.number);
-    }
-    Subdivisions::Absent
-}
-
-pub fn column_of(job: CColumn) -> Column
-    ensures { result ≡ column_of job }
-{
-    let given = job.sides;
-    let subdivisions = subdivisions_of(job.subdivisions);
-    let sides = sides_of(given);
-    let top = choice_of(job.top);
-    let bottom = choice_of(job.bottom);
-    let position = crate::from_c::vec2_of(job.position);
-    let placement = crate::from_c::placement_of(job.placement);
-    Column {
-        height: job.height,
-        subdivisions: subdivisions,
-        sides: sides,
-        top: top,
-        bottom: bottom,
-        position: position,
-        placement: placement,
+    fn from(c: CChoice) -> Choice {
+        if c.given {
+            Choice::With(c.option)
+        } else {
+            Choice::Absent
+        }
     }
 }
 
-pub fn cheap_column_of(job: CCheapColumn) -> CheapColumn
-    ensures { result ≡ cheap_column_of job }
-{
-    let centre = crate::from_c::vec2_of(job.centre);
-    CheapColumn {
-        centre: centre,
-        height: job.height,
+impl From<CChoice> for Side {
+    ghost from_gives = { λ c made. made ≡ side_of c };
+
+    fn from(c: CChoice) -> Side {
+        Side {
+            option: Choice::from(c),
+        }
     }
 }
 
-fn range_of(r: CRange) -> HeightRange
-    ensures { result ≡ range_of r }
-{
-    if r.given {
-        return HeightRange::Of(r.min, r.max);
+impl From<CSubdivisions> for Subdivisions {
+    ghost from_gives = { λ s made. made ≡ subdivisions_of s };
+
+    fn from(s: CSubdivisions) -> Subdivisions {
+        if s.given {
+            Subdivisions::Of(s.number)
+        } else {
+            Subdivisions::Absent
+        }
     }
-    HeightRange::OfAll
 }
 
-fn origin_of(o: COrigin) -> Origin
-    ensures { result ≡ origin_of o }
-{
-    if o.given {
-        let at = crate::from_c::vec2_of(o.at);
-        return Origin::At(at);
+impl From<CColumn> for Column {
+    ghost from_gives = { λ job made. made ≡ column_of job };
+
+    fn from(job: CColumn) -> Column {
+        Column {
+            height: job.height,
+            subdivisions: Subdivisions::from(job.subdivisions),
+            sides: job.sides.map(Side::from),
+            top: Choice::from(job.top),
+            bottom: Choice::from(job.bottom),
+            position: Vec2::from(job.position),
+            placement: Placement::from(job.placement),
+        }
     }
-    Origin::Centred
 }
 
-// Whether a fringe has a meaning; where it has none the job is refused.
-pub fn is_fringe(mark: u8) -> bool
-    ensures { result ≡ is_fringe mark }
-{
-    if mark == 1 {
-        return true;
+impl From<CCheapColumn> for CheapColumn {
+    ghost from_gives = { λ job made. made ≡ cheap_column_of job };
+
+    fn from(job: CCheapColumn) -> CheapColumn {
+        CheapColumn {
+            centre: Vec2::from(job.centre),
+            height: job.height,
+        }
     }
-    mark == 2
 }
 
-fn fringe_of(mark: u8) -> Fringe
-    ensures { result ≡ fringe_of mark }
-{
-    if mark == 2 {
-        return Fringe::Listed;
+impl From<CRange> for HeightRange {
+    ghost from_gives = { λ r made. made ≡ range_of r };
+
+    fn from(r: CRange) -> HeightRange {
+        if r.given {
+            HeightRange::Of(r.min, r.max)
+        } else {
+            HeightRange::OfAll
+        }
     }
-    Fringe::Bare
 }
 
+impl From<COrigin> for Origin {
+    ghost from_gives = { λ o made. made ≡ origin_of o };
+
+    fn from(o: COrigin) -> Origin {
+        if o.given {
+            Origin::At(Vec2::from(o.at))
+        } else {
+            Origin::Centred
+        }
+    }
+}
+
+// A fringe that has no meaning is refused. A function, as a foreign trait can have no impl for two foreign types.
+fn fringe_of(mark: u8) -> Result<Fringe, Refusal>
+    ensures { result ≡ fringe_told mark }
+{
+    match mark {
+        1 => Ok(Fringe::Bare),
+        2 => Ok(Fringe::Listed),
+        _ => Err(Refusal::Shape),
+    }
+}
+
+// A function, as a foreign trait can have no impl for two foreign types.
 fn customs_of(listed: bool) -> Customs
     ensures { result ≡ customs_of listed }
 {
     if listed {
-        return Customs::Listed;
+        Customs::Listed
+    } else {
+        Customs::Absent
     }
-    Customs::Absent
 }
 
-pub fn heightmap_of(job: CHeightMap) -> HeightMap
-    ensures { result ≡ height_map_of job }
-{
-    let caps = choice_of(job.caps);
-    let sides = choice_of(job.sides);
-    let range = range_of(job.range);
-    let fringe = fringe_of(job.fringe);
-    let customs = customs_of(job.customs);
-    let placement = crate::from_c::placement_of(job.placement);
-    let origin = origin_of(job.origin);
-    HeightMap {
-        caps: caps,
-        sides: sides,
-        range: range,
-        fringe: fringe,
-        customs: customs,
-        placement: placement,
-        origin: origin,
+impl TryFrom<CHeightMap> for HeightMap {
+    type Error = Refusal;
+
+    ghost try_from_gives = { λ job made. made ≡ height_map_told job };
+
+    fn try_from(job: CHeightMap) -> Result<HeightMap, Refusal> {
+        Ok(HeightMap {
+            caps: Choice::from(job.caps),
+            sides: Choice::from(job.sides),
+            range: HeightRange::from(job.range),
+            fringe: fringe_of(job.fringe)?,
+            customs: customs_of(job.customs),
+            placement: Placement::from(job.placement),
+            origin: Origin::from(job.origin),
+        })
     }
 }

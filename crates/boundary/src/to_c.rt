@@ -12,7 +12,7 @@ use mesh::windows::{Faces, Window};
 use stl_writing::Filed;
 
 #[repr(C)]
-#[derive(Clone, Copy)]
+#[derive(Clone, Copy, Default)]
 pub struct CAnswer {
     pub number: u32,
     pub spare: u32,
@@ -22,28 +22,28 @@ pub struct CAnswer {
 }
 
 #[repr(C)]
-#[derive(Clone, Copy)]
+#[derive(Clone, Copy, Default)]
 pub struct CCentroid {
     pub answer: CAnswer,
     pub centroid: CVec3,
 }
 
 #[repr(C)]
-#[derive(Clone, Copy)]
+#[derive(Clone, Copy, Default)]
 pub struct CUvCentroid {
     pub answer: CAnswer,
     pub centroid: CVec2,
 }
 
 #[repr(C)]
-#[derive(Clone, Copy)]
+#[derive(Clone, Copy, Default)]
 pub struct CFaces {
     pub answer: CAnswer,
     pub faces: usize,
 }
 
 #[repr(C)]
-#[derive(Clone, Copy)]
+#[derive(Clone, Copy, Default)]
 pub struct CWindow {
     pub answer: CAnswer,
     pub first_vertex: usize,
@@ -53,14 +53,14 @@ pub struct CWindow {
 }
 
 #[repr(C)]
-#[derive(Clone, Copy)]
+#[derive(Clone, Copy, Default)]
 pub struct CFile {
     pub answer: CAnswer,
     pub bytes: usize,
 }
 
 #[repr(C)]
-#[derive(Clone, Copy)]
+#[derive(Clone, Copy, Default)]
 pub struct CWhy {
     pub answer: CAnswer,
     pub reason: u32,
@@ -69,7 +69,7 @@ pub struct CWhy {
 }
 
 #[repr(C)]
-#[derive(Clone, Copy)]
+#[derive(Clone, Copy, Default)]
 pub struct CWhich {
     pub answer: CAnswer,
     pub kind: u32,
@@ -77,154 +77,174 @@ pub struct CWhich {
     pub cell: usize,
 }
 
-pub fn answer_to_c(answer: Answer) -> CAnswer
-    ensures { result ≡ answer_to_c answer }
-{
-    let counts = answer::answer::counts_of(answer);
-    CAnswer {
-        number: answer::answer::number_of(answer),
-        spare: 0,
-        vertices: counts.vertices.0,
-        indices: counts.indices.0,
-        need: answer::answer::need_of(answer),
+// What is told of a mesh, of a job or of a file, or why nothing is.
+type CentroidAnswer = Result<Middle<Vec3>, Refusal>;
+
+type UvCentroidAnswer = Result<Middle<Vec2>, Refusal>;
+
+type FacesAnswer = Result<Faces, Refusal>;
+
+type WindowAnswer = Result<Window, Refusal>;
+
+type FileAnswer = Result<Filed, Refusal>;
+
+impl From<Answer> for CAnswer {
+    ghost from_gives = { λ answer made. made ≡ answer_to_c answer };
+
+    fn from(answer: Answer) -> CAnswer {
+        let counts = answer::answer::counts_of(answer);
+        CAnswer {
+            number: answer::answer::number_of(answer),
+            spare: 0,
+            vertices: counts.vertices.0,
+            indices: counts.indices.0,
+            need: answer::answer::need_of(answer),
+        }
     }
 }
 
-pub fn point_to_c(p: Vec2) -> CVec2
-    ensures { result ≡ point_to_c p }
-{
-    CVec2 { x: p.x, y: p.y }
-}
+impl From<Vec2> for CVec2 {
+    ghost from_gives = { λ p made. made ≡ point_to_c p };
 
-pub(crate) fn point3_to_c(p: Vec3) -> CVec3
-    ensures { result ≡ point3_to_c p }
-{
-    CVec3 {
-        x: p.x,
-        y: p.y,
-        z: p.z,
+    fn from(p: Vec2) -> CVec2 {
+        CVec2 { x: p.x, y: p.y }
     }
 }
 
-pub fn centroid_to_c(told: Result<Middle<Vec3>, Refusal>) -> CCentroid
-    ensures { result ≡ centroid_to_c told }
-{
-    match told {
-        Ok(middle) => CCentroid {
-            answer: answer_to_c(Ok(middle.counts)),
-            centroid: point3_to_c(middle.centroid),
-        },
-        Err(why) => CCentroid {
-            answer: answer_to_c(Err(why)),
-            centroid: CVec3 {
-                x: 0.0,
-                y: 0.0,
-                z: 0.0,
+impl From<Vec3> for CVec3 {
+    ghost from_gives = { λ p made. made ≡ point3_to_c p };
+
+    fn from(p: Vec3) -> CVec3 {
+        CVec3 {
+            x: p.x,
+            y: p.y,
+            z: p.z,
+        }
+    }
+}
+
+impl From<CentroidAnswer> for CCentroid {
+    ghost from_gives = { λ told made. made ≡ centroid_to_c told };
+
+    fn from(told: CentroidAnswer) -> CCentroid {
+        match told {
+            Ok(middle) => CCentroid {
+                answer: CAnswer::from(Ok(middle.counts)),
+                centroid: CVec3::from(middle.centroid),
             },
-        },
+            Err(why) => CCentroid {
+                answer: CAnswer::from(Err(why)),
+                ..CCentroid::default()
+            },
+        }
     }
 }
 
-pub fn uv_centroid_to_c(told: Result<Middle<Vec2>, Refusal>) -> CUvCentroid
-    ensures { result ≡ uv_centroid_to_c told }
-{
-    match told {
-        Ok(middle) => CUvCentroid {
-            answer: answer_to_c(Ok(middle.counts)),
-            centroid: point_to_c(middle.centroid),
-        },
-        Err(why) => CUvCentroid {
-            answer: answer_to_c(Err(why)),
-            centroid: CVec2 { x: 0.0, y: 0.0 },
-        },
+impl From<UvCentroidAnswer> for CUvCentroid {
+    ghost from_gives = { λ told made. made ≡ uv_centroid_to_c told };
+
+    fn from(told: UvCentroidAnswer) -> CUvCentroid {
+        match told {
+            Ok(middle) => CUvCentroid {
+                answer: CAnswer::from(Ok(middle.counts)),
+                centroid: CVec2::from(middle.centroid),
+            },
+            Err(why) => CUvCentroid {
+                answer: CAnswer::from(Err(why)),
+                ..CUvCentroid::default()
+            },
+        }
     }
 }
 
-pub fn faces_to_c(told: Result<Faces, Refusal>) -> CFaces
-    ensures { result ≡ faces_to_c told }
-{
-    match told {
-        Ok(told) => CFaces {
-            answer: answer_to_c(Ok(told.counts)),
-            faces: told.faces,
-        },
-        Err(why) => CFaces {
-            answer: answer_to_c(Err(why)),
-            faces: 0,
-        },
+impl From<FacesAnswer> for CFaces {
+    ghost from_gives = { λ told made. made ≡ faces_to_c told };
+
+    fn from(told: FacesAnswer) -> CFaces {
+        match told {
+            Ok(told) => CFaces {
+                answer: CAnswer::from(Ok(told.counts)),
+                faces: told.faces,
+            },
+            Err(why) => CFaces {
+                answer: CAnswer::from(Err(why)),
+                ..CFaces::default()
+            },
+        }
     }
 }
 
-pub fn window_to_c(told: Result<Window, Refusal>) -> CWindow
-    ensures { result ≡ window_to_c told }
-{
-    match told {
-        Ok(window) => CWindow {
-            answer: answer_to_c(Ok(window.counts)),
-            first_vertex: window.start.vertices.0,
-            first_index: window.start.indices.0,
-            vertices: window.size.vertices.0,
-            indices: window.size.indices.0,
-        },
-        Err(why) => CWindow {
-            answer: answer_to_c(Err(why)),
-            first_vertex: 0,
-            first_index: 0,
-            vertices: 0,
-            indices: 0,
-        },
+impl From<WindowAnswer> for CWindow {
+    ghost from_gives = { λ told made. made ≡ window_to_c told };
+
+    fn from(told: WindowAnswer) -> CWindow {
+        match told {
+            Ok(window) => CWindow {
+                answer: CAnswer::from(Ok(window.counts)),
+                first_vertex: window.start.vertices.0,
+                first_index: window.start.indices.0,
+                vertices: window.size.vertices.0,
+                indices: window.size.indices.0,
+            },
+            Err(why) => CWindow {
+                answer: CAnswer::from(Err(why)),
+                ..CWindow::default()
+            },
+        }
     }
 }
 
-pub fn file_to_c(told: Result<Filed, Refusal>) -> CFile
-    ensures { result ≡ file_to_c told }
-{
-    match told {
-        Ok(filed) => CFile {
-            answer: answer_to_c(Ok(filed.counts)),
-            bytes: filed.bytes,
-        },
-        Err(why) => CFile {
-            answer: answer_to_c(Err(why)),
-            bytes: 0,
-        },
+impl From<FileAnswer> for CFile {
+    ghost from_gives = { λ told made. made ≡ file_to_c told };
+
+    fn from(told: FileAnswer) -> CFile {
+        match told {
+            Ok(filed) => CFile {
+                answer: CAnswer::from(Ok(filed.counts)),
+                bytes: filed.bytes,
+            },
+            Err(why) => CFile {
+                answer: CAnswer::from(Err(why)),
+                ..CFile::default()
+            },
+        }
     }
 }
 
-pub fn why_to_c(told: WhyAnswer) -> CWhy
-    ensures { result ≡ why_to_c told }
-{
-    match told {
-        Ok((counts, reason)) => CWhy {
-            answer: answer_to_c(Ok(counts)),
-            reason: heightmap_why::reason_code(reason),
-            height: heightmap_why::reason_height(reason),
-            face: heightmap_why::reason_face(reason),
-        },
-        Err(why) => CWhy {
-            answer: answer_to_c(Err(why)),
-            reason: 0,
-            height: 0.0,
-            face: 0,
-        },
+impl From<WhyAnswer> for CWhy {
+    ghost from_gives = { λ told made. made ≡ why_to_c told };
+
+    fn from(told: WhyAnswer) -> CWhy {
+        match told {
+            Ok((counts, reason)) => CWhy {
+                answer: CAnswer::from(Ok(counts)),
+                reason: heightmap_why::reason_code(reason),
+                height: heightmap_why::reason_height(reason),
+                face: heightmap_why::reason_face(reason),
+            },
+            Err(why) => CWhy {
+                answer: CAnswer::from(Err(why)),
+                ..CWhy::default()
+            },
+        }
     }
 }
 
-pub fn which_to_c(told: WhichAnswer) -> CWhich
-    ensures { result ≡ which_to_c told }
-{
-    match told {
-        Ok((counts, name)) => CWhich {
-            answer: answer_to_c(Ok(counts)),
-            kind: heightmap_why::kind_code(name),
-            side: heightmap_why::side_of(name),
-            cell: heightmap_why::cell_of(name),
-        },
-        Err(why) => CWhich {
-            answer: answer_to_c(Err(why)),
-            kind: 0,
-            side: 0,
-            cell: 0,
-        },
+impl From<WhichAnswer> for CWhich {
+    ghost from_gives = { λ told made. made ≡ which_to_c told };
+
+    fn from(told: WhichAnswer) -> CWhich {
+        match told {
+            Ok((counts, name)) => CWhich {
+                answer: CAnswer::from(Ok(counts)),
+                kind: heightmap_why::kind_code(name),
+                side: heightmap_why::side_of(name),
+                cell: heightmap_why::cell_of(name),
+            },
+            Err(why) => CWhich {
+                answer: CAnswer::from(Err(why)),
+                ..CWhich::default()
+            },
+        }
     }
 }

@@ -7,30 +7,27 @@ ghost use Rattle.boundary.specs.ToC.{answer_to_c, faces_to_c, window_to_c};
 
 use boundary::jobs::CCheapColumn;
 use boundary::to_c::{CAnswer, CFaces, CWindow};
+use cheap_column::CheapColumn;
 
 // The counts of the job, or why it is refused.
 pub fn hosirekar_cheap_column_plan(job: CCheapColumn, corners: &[f32]) -> CAnswer
     ensures { result ≡ answer_to_c (planned (cheap_column_of job) corners.now) }
 {
-    boundary::to_c::answer_to_c(cheap_column::plan(boundary::jobs::cheap_column_of(job), corners))
+    CAnswer::from(cheap_column::plan(CheapColumn::from(job), corners))
 }
 
 // How many faces the job has, or why it is refused.
 pub fn hosirekar_cheap_column_faces(job: CCheapColumn, corners: &[f32]) -> CFaces
     ensures { result ≡ faces_to_c (faces_told (cheap_column_of job) corners.now) }
 {
-    boundary::to_c::faces_to_c(cheap_column::faces(boundary::jobs::cheap_column_of(job), corners))
+    CFaces::from(cheap_column::faces(CheapColumn::from(job), corners))
 }
 
 // The places of one face of the job, by its number, or why there are none.
 pub fn hosirekar_cheap_column_window(job: CCheapColumn, corners: &[f32], number: usize) -> CWindow
     ensures { result ≡ window_to_c (window_told (cheap_column_of job) corners.now number) }
 {
-    boundary::to_c::window_to_c(cheap_column::window(
-        boundary::jobs::cheap_column_of(job),
-        corners,
-        number,
-    ))
+    CWindow::from(cheap_column::window(CheapColumn::from(job), corners, number))
 }
 
 // The whole job, written to four buffers, or nothing.
@@ -45,8 +42,8 @@ pub fn hosirekar_cheap_column_build(
     ensures answer { result ≡ answer_to_c (whole_answer (cheap_column_of job) corners.now (entering vertices normals uvs indices)) }
     ensures buffers { Become (built (cheap_column_of job) corners.now) vertices normals uvs indices }
 {
-    boundary::to_c::answer_to_c(cheap_column::build(
-        boundary::jobs::cheap_column_of(job),
+    CAnswer::from(cheap_column::build(
+        CheapColumn::from(job),
         corners,
         vertices,
         normals,
@@ -68,8 +65,8 @@ pub fn hosirekar_cheap_column_face(
     ensures answer { result ≡ answer_to_c (face_answer (cheap_column_of job) corners.now number (entering vertices normals uvs indices)) }
     ensures buffers { Become (faced (cheap_column_of job) corners.now number) vertices normals uvs indices }
 {
-    boundary::to_c::answer_to_c(cheap_column::face(
-        boundary::jobs::cheap_column_of(job),
+    CAnswer::from(cheap_column::face(
+        CheapColumn::from(job),
         corners,
         number,
         vertices,

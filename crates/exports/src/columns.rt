@@ -9,6 +9,7 @@ ghost use Rattle.boundary.specs.ToC.{answer_to_c, faces_to_c, window_to_c};
 
 use boundary::jobs::CColumn;
 use boundary::to_c::{CAnswer, CFaces, CWindow};
+use column::Column;
 
 // The counts of the job, or why it is refused.
 pub fn hosirekar_column_plan(
@@ -20,13 +21,7 @@ pub fn hosirekar_column_plan(
 ) -> CAnswer
     ensures { result ≡ answer_to_c (planned (column_of job) (lent pairs corners numbers marks)) }
 {
-    boundary::to_c::answer_to_c(column_builder::plan(
-        boundary::jobs::column_of(job),
-        pairs,
-        corners,
-        numbers,
-        marks,
-    ))
+    CAnswer::from(column_builder::plan(Column::from(job), pairs, corners, numbers, marks))
 }
 
 // How many faces the job has, or why it is refused.
@@ -39,13 +34,7 @@ pub fn hosirekar_column_faces(
 ) -> CFaces
     ensures { result ≡ faces_to_c (faces_told (column_of job) (lent pairs corners numbers marks)) }
 {
-    boundary::to_c::faces_to_c(column::window::faces(
-        boundary::jobs::column_of(job),
-        pairs,
-        corners,
-        numbers,
-        marks,
-    ))
+    CFaces::from(column::window::faces(Column::from(job), pairs, corners, numbers, marks))
 }
 
 // The places of one face of the job, by its number, or why there are none.
@@ -59,14 +48,7 @@ pub fn hosirekar_column_window(
 ) -> CWindow
     ensures { result ≡ window_to_c (window_told (column_of job) (lent pairs corners numbers marks) number) }
 {
-    boundary::to_c::window_to_c(column::window::window(
-        boundary::jobs::column_of(job),
-        pairs,
-        corners,
-        numbers,
-        marks,
-        number,
-    ))
+    CWindow::from(column::window::window(Column::from(job), pairs, corners, numbers, marks, number))
 }
 
 // The whole job, written to four buffers, or nothing.
@@ -84,8 +66,8 @@ pub fn hosirekar_column_build(
     ensures answer { result ≡ answer_to_c (whole_answer (column_of job) (lent pairs corners numbers marks) (entering vertices normals uvs indices)) }
     ensures buffers { Become (built (column_of job) (lent pairs corners numbers marks)) vertices normals uvs indices }
 {
-    boundary::to_c::answer_to_c(column_builder::build(
-        boundary::jobs::column_of(job),
+    CAnswer::from(column_builder::build(
+        Column::from(job),
         pairs,
         corners,
         numbers,
@@ -113,8 +95,8 @@ pub fn hosirekar_column_face(
     ensures answer { result ≡ answer_to_c (face_answer (column_of job) (lent pairs corners numbers marks) number (entering vertices normals uvs indices)) }
     ensures buffers { Become (faced (column_of job) (lent pairs corners numbers marks) number) vertices normals uvs indices }
 {
-    boundary::to_c::answer_to_c(column_builder::face(
-        boundary::jobs::column_of(job),
+    CAnswer::from(column_builder::face(
+        Column::from(job),
         pairs,
         corners,
         numbers,

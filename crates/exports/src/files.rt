@@ -8,6 +8,7 @@ ghost use Rattle.boundary.specs.ToC.{answer_to_c, file_to_c};
 
 use boundary::from_c::CCounts;
 use boundary::to_c::{CAnswer, CFile};
+use face::triangle::Counts;
 
 // Writes the file of a mesh at the start of a byte buffer, or nothing.
 pub fn hosirekar_stl_write(
@@ -21,14 +22,7 @@ pub fn hosirekar_stl_write(
     ensures answer { result ≡ file_to_c (file_answer (counts_in counts) (shown vertices normals uvs indices) (length bytes.old)) }
     ensures bytes { bytes.new ≡ written (counts_in counts) (shown vertices normals uvs indices) bytes.old }
 {
-    boundary::to_c::file_to_c(stl_writing::write(
-        boundary::from_c::counts_in(counts),
-        vertices,
-        normals,
-        uvs,
-        indices,
-        bytes,
-    ))
+    CFile::from(stl_writing::write(Counts::from(counts), vertices, normals, uvs, indices, bytes))
 }
 
 // Reads the mesh of a file, or writes nothing.
@@ -42,5 +36,5 @@ pub fn hosirekar_stl_read(
     ensures answer { result ≡ answer_to_c (read_answer bytes.now (entering vertices normals uvs indices)) }
     ensures buffers { Become (read_back bytes.now) vertices normals uvs indices }
 {
-    boundary::to_c::answer_to_c(stl_reading::read(bytes, vertices, normals, uvs, indices))
+    CAnswer::from(stl_reading::read(bytes, vertices, normals, uvs, indices))
 }

@@ -14,5 +14,5 @@ pub fn hosirekar_heightmap_load(
 ) -> CAnswer
     ensures { Loading answer_to_c records cells neighbours result }
 {
-    boundary::to_c::answer_to_c(cells::load(records, cells, neighbours))
+    CAnswer::from(cells::load(records, cells, neighbours))
 }

@@ -7,9 +7,9 @@ ghost use Rattle.heightmap.specs.HeightMap.{lent};
 ghost use Rattle.boundary.specs.Maps.{map_planned, map_whole, map_face, map_built, map_faced, map_faces_told, map_window_told, map_why_told, map_which_told};
 ghost use Rattle.boundary.specs.ToC.{answer_to_c, faces_to_c, window_to_c, why_to_c, which_to_c};
 
-use answer::answer::Refusal;
 use boundary::jobs::CHeightMap;
 use boundary::to_c::{CAnswer, CFaces, CWhich, CWhy, CWindow};
+use heightmap::HeightMap;
 
 // The counts of the job, or why it is refused.
 pub fn hosirekar_heightmap_plan(
@@ -24,19 +24,11 @@ pub fn hosirekar_heightmap_plan(
 ) -> CAnswer
     ensures { result ≡ answer_to_c (map_planned job (lent cells neighbours fringe customs corners numbers marks)) }
 {
-    if boundary::jobs::is_fringe(job.fringe) {
-        return boundary::to_c::answer_to_c(heightmap_builder::plan(
-            boundary::jobs::heightmap_of(job),
-            cells,
-            neighbours,
-            fringe,
-            customs,
-            corners,
-            numbers,
-            marks,
-        ));
-    }
-    boundary::to_c::answer_to_c(Err(Refusal::Shape))
+    CAnswer::from(HeightMap::try_from(job).and_then(|job| {
+        heightmap_builder::plan(
+            job, cells, neighbours, fringe, customs, corners, numbers, marks,
+        )
+    }))
 }
 
 // How many faces the job has, or why it is refused.
@@ -52,19 +44,11 @@ pub fn hosirekar_heightmap_faces(
 ) -> CFaces
     ensures { result ≡ faces_to_c (map_faces_told job (lent cells neighbours fringe customs corners numbers marks)) }
 {
-    if boundary::jobs::is_fringe(job.fringe) {
-        return boundary::to_c::faces_to_c(heightmap_plan::window::faces(
-            boundary::jobs::heightmap_of(job),
-            cells,
-            neighbours,
-            fringe,
-            customs,
-            corners,
-            numbers,
-            marks,
-        ));
-    }
-    boundary::to_c::faces_to_c(Err(Refusal::Shape))
+    CFaces::from(HeightMap::try_from(job).and_then(|job| {
+        heightmap_plan::window::faces(
+            job, cells, neighbours, fringe, customs, corners, numbers, marks,
+        )
+    }))
 }
 
 // The places of one face of the job, by its number, or why there are none.
@@ -81,20 +65,11 @@ pub fn hosirekar_heightmap_window(
 ) -> CWindow
     ensures { result ≡ window_to_c (map_window_told job (lent cells neighbours fringe customs corners numbers marks) number) }
 {
-    if boundary::jobs::is_fringe(job.fringe) {
-        return boundary::to_c::window_to_c(heightmap_plan::window::window(
-            boundary::jobs::heightmap_of(job),
-            cells,
-            neighbours,
-            fringe,
-            customs,
-            corners,
-            numbers,
-            marks,
-            number,
-        ));
-    }
-    boundary::to_c::window_to_c(Err(Refusal::Shape))
+    CWindow::from(HeightMap::try_from(job).and_then(|job| {
+        heightmap_plan::window::window(
+            job, cells, neighbours, fringe, customs, corners, numbers, marks, number,
+        )
+    }))
 }
 
 // Why a side of a cell is there or is not: 1 sides are off, 2 no neighbour and no fringe height, 3 the neighbour or the
@@ -113,21 +88,11 @@ pub fn hosirekar_heightmap_why(
 ) -> CWhy
     ensures { result ≡ why_to_c (map_why_told job (lent cells neighbours fringe customs corners numbers marks) cell side) }
 {
-    if boundary::jobs::is_fringe(job.fringe) {
-        return boundary::to_c::why_to_c(heightmap_why::why(
-            boundary::jobs::heightmap_of(job),
-            cells,
-            neighbours,
-            fringe,
-            customs,
-            corners,
-            numbers,
-            marks,
-            cell,
-            side,
-        ));
-    }
-    boundary::to_c::why_to_c(Err(Refusal::Shape))
+    CWhy::from(HeightMap::try_from(job).and_then(|job| {
+        heightmap_why::why(
+            job, cells, neighbours, fringe, customs, corners, numbers, marks, cell, side,
+        )
+    }))
 }
 
 // Which face a number is: 1 the cap of a cell, 2 a side of a cell.
@@ -144,20 +109,11 @@ pub fn hosirekar_heightmap_which(
 ) -> CWhich
     ensures { result ≡ which_to_c (map_which_told job (lent cells neighbours fringe customs corners numbers marks) number) }
 {
-    if boundary::jobs::is_fringe(job.fringe) {
-        return boundary::to_c::which_to_c(heightmap_why::which(
-            boundary::jobs::heightmap_of(job),
-            cells,
-            neighbours,
-            fringe,
-            customs,
-            corners,
-            numbers,
-            marks,
-            number,
-        ));
-    }
-    boundary::to_c::which_to_c(Err(Refusal::Shape))
+    CWhich::from(HeightMap::try_from(job).and_then(|job| {
+        heightmap_why::which(
+            job, cells, neighbours, fringe, customs, corners, numbers, marks, number,
+        )
+    }))
 }
 
 // The whole job, written to four buffers, or nothing.
@@ -178,23 +134,13 @@ pub fn hosirekar_heightmap_build(
     ensures answer { result ≡ answer_to_c (map_whole job (lent cells neighbours fringe customs corners numbers marks) (entering vertices normals uvs indices)) }
     ensures buffers { Become (map_built job (lent cells neighbours fringe customs corners numbers marks)) vertices normals uvs indices }
 {
-    if boundary::jobs::is_fringe(job.fringe) {
-        return boundary::to_c::answer_to_c(heightmap_builder::build(
-            boundary::jobs::heightmap_of(job),
-            cells,
-            neighbours,
-            fringe,
-            customs,
-            corners,
-            numbers,
-            marks,
-            vertices,
-            normals,
-            uvs,
-            indices,
-        ));
+    match HeightMap::try_from(job) {
+        Ok(job) => CAnswer::from(heightmap_builder::build(
+            job, cells, neighbours, fringe, customs, corners, numbers, marks, vertices, normals,
+            uvs, indices,
+        )),
+        Err(why) => CAnswer::from(Err(why)),
     }
-    boundary::to_c::answer_to_c(Err(Refusal::Shape))
 }
 
 // One face of the job, by its number: of each cell the cap, then the sides that stand.
@@ -216,22 +162,11 @@ pub fn hosirekar_heightmap_face(
     ensures answer { result ≡ answer_to_c (map_face job (lent cells neighbours fringe customs corners numbers marks) number (entering vertices normals uvs indices)) }
     ensures buffers { Become (map_faced job (lent cells neighbours fringe customs corners numbers marks) number) vertices normals uvs indices }
 {
-    if boundary::jobs::is_fringe(job.fringe) {
-        return boundary::to_c::answer_to_c(heightmap_builder::face(
-            boundary::jobs::heightmap_of(job),
-            cells,
-            neighbours,
-            fringe,
-            customs,
-            corners,
-            numbers,
-            marks,
-            number,
-            vertices,
-            normals,
-            uvs,
-            indices,
-        ));
+    match HeightMap::try_from(job) {
+        Ok(job) => CAnswer::from(heightmap_builder::face(
+            job, cells, neighbours, fringe, customs, corners, numbers, marks, number, vertices,
+            normals, uvs, indices,
+        )),
+        Err(why) => CAnswer::from(Err(why)),
     }
-    boundary::to_c::answer_to_c(Err(Refusal::Shape))
 }

@@ -7,6 +7,7 @@ ghost use Rattle.exports.specs.Merging.{merge_to_c};
 
 use boundary::from_c::CCounts;
 use boundary::to_c::CAnswer;
+use face::triangle::Counts;
 
 // Appends a source mesh to a target, or writes nothing.
 pub fn hosirekar_merge(
@@ -24,13 +25,13 @@ pub fn hosirekar_merge(
     ensures answer { result ≡ merge_to_c source (shown svertices snormals suvs sindices) target (entering vertices normals uvs indices) }
     ensures buffers { Become (merged (counts_in source) (shown svertices snormals suvs sindices) (counts_in target)) vertices normals uvs indices }
 {
-    boundary::to_c::answer_to_c(merge::merge(
-        boundary::from_c::counts_in(source),
+    CAnswer::from(merge::merge(
+        Counts::from(source),
         svertices,
         snormals,
         suvs,
         sindices,
-        boundary::from_c::counts_in(target),
+        Counts::from(target),
         vertices,
         normals,
         uvs,

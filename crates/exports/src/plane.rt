@@ -7,29 +7,20 @@ ghost use Rattle.boundary.specs.ToC.{answer_to_c, faces_to_c, window_to_c};
 
 use boundary::jobs::CPlane;
 use boundary::to_c::{CAnswer, CFaces, CWindow};
+use plane_builder::Plane;
 
 // The counts of the job, or why it is refused.
 pub fn hosirekar_plane_plan(job: CPlane, corners: &[f32], numbers: &[f32], marks: &[u8]) -> CAnswer
     ensures { result ≡ answer_to_c (planned (plane_of job) (lent corners numbers marks)) }
 {
-    boundary::to_c::answer_to_c(plane_builder::plan(
-        boundary::jobs::plane_of(job),
-        corners,
-        numbers,
-        marks,
-    ))
+    CAnswer::from(plane_builder::plan(Plane::from(job), corners, numbers, marks))
 }
 
 // How many faces the job has, or why it is refused.
 pub fn hosirekar_plane_faces(job: CPlane, corners: &[f32], numbers: &[f32], marks: &[u8]) -> CFaces
     ensures { result ≡ faces_to_c (faces_told (plane_of job) (lent corners numbers marks)) }
 {
-    boundary::to_c::faces_to_c(plane_builder::faces(
-        boundary::jobs::plane_of(job),
-        corners,
-        numbers,
-        marks,
-    ))
+    CFaces::from(plane_builder::faces(Plane::from(job), corners, numbers, marks))
 }
 
 // The places of one face of the job, by its number, or why there are none.
@@ -42,13 +33,7 @@ pub fn hosirekar_plane_window(
 ) -> CWindow
     ensures { result ≡ window_to_c (window_told (plane_of job) (lent corners numbers marks) number) }
 {
-    boundary::to_c::window_to_c(plane_builder::window(
-        boundary::jobs::plane_of(job),
-        corners,
-        numbers,
-        marks,
-        number,
-    ))
+    CWindow::from(plane_builder::window(Plane::from(job), corners, numbers, marks, number))
 }
 
 // The whole job, written to four buffers, or nothing.
@@ -65,8 +50,8 @@ pub fn hosirekar_plane_build(
     ensures answer { result ≡ answer_to_c (whole_answer (plane_of job) (lent corners numbers marks) (entering vertices normals uvs indices)) }
     ensures buffers { Become (built (plane_of job) (lent corners numbers marks)) vertices normals uvs indices }
 {
-    boundary::to_c::answer_to_c(plane_builder::build(
-        boundary::jobs::plane_of(job),
+    CAnswer::from(plane_builder::build(
+        Plane::from(job),
         corners,
         numbers,
         marks,
@@ -92,8 +77,8 @@ pub fn hosirekar_plane_face(
     ensures answer { result ≡ answer_to_c (face_answer (plane_of job) (lent corners numbers marks) number (entering vertices normals uvs indices)) }
     ensures buffers { Become (faced (plane_of job) (lent corners numbers marks) number) vertices normals uvs indices }
 {
-    boundary::to_c::answer_to_c(plane_builder::face(
-        boundary::jobs::plane_of(job),
+    CAnswer::from(plane_builder::face(
+        Plane::from(job),
         corners,
         numbers,
         marks,

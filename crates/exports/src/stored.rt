@@ -8,6 +8,8 @@ ghost use Rattle.boundary.specs.ToC.{answer_to_c, centroid_to_c, uv_centroid_to_
 
 use boundary::from_c::{CCounts, CVec2, CVec3};
 use boundary::to_c::{CAnswer, CCentroid, CUvCentroid};
+use face::triangle::Counts;
+use face::vec::{Vec2, Vec3};
 
 // Multiplies each position, component by component.
 pub fn hosirekar_scale(
@@ -21,9 +23,9 @@ pub fn hosirekar_scale(
     ensures answer { result ≡ answer_to_c (scale_answer (counts_in counts) (vec3_of by) (four vertices.old normals.now uvs.now indices.now)) }
     ensures buffers { four vertices.new normals.now uvs.now indices.now ≡ scaled (counts_in counts) (vec3_of by) (four vertices.old normals.now uvs.now indices.now) }
 {
-    boundary::to_c::answer_to_c(mesh::stored::scale(
-        boundary::from_c::counts_in(counts),
-        boundary::from_c::vec3_of(by),
+    CAnswer::from(mesh::stored::scale(
+        Counts::from(counts),
+        Vec3::from(by),
         vertices,
         normals,
         uvs,
@@ -43,9 +45,9 @@ pub fn hosirekar_offset(
     ensures answer { result ≡ answer_to_c (offset_answer (counts_in counts) (vec3_of by) (four vertices.old normals.now uvs.now indices.now)) }
     ensures buffers { four vertices.new normals.now uvs.now indices.now ≡ shifted (counts_in counts) (vec3_of by) (four vertices.old normals.now uvs.now indices.now) }
 {
-    boundary::to_c::answer_to_c(mesh::stored::offset(
-        boundary::from_c::counts_in(counts),
-        boundary::from_c::vec3_of(by),
+    CAnswer::from(mesh::stored::offset(
+        Counts::from(counts),
+        Vec3::from(by),
         vertices,
         normals,
         uvs,
@@ -65,9 +67,9 @@ pub fn hosirekar_texture_scale(
     ensures answer { result ≡ answer_to_c (texture_scale_answer (counts_in counts) (vec2_of by) (four vertices.now normals.now uvs.old indices.now)) }
     ensures buffers { four vertices.now normals.now uvs.new indices.now ≡ texture_scaled (counts_in counts) (vec2_of by) (four vertices.now normals.now uvs.old indices.now) }
 {
-    boundary::to_c::answer_to_c(mesh::stored::texture_scale(
-        boundary::from_c::counts_in(counts),
-        boundary::from_c::vec2_of(by),
+    CAnswer::from(mesh::stored::texture_scale(
+        Counts::from(counts),
+        Vec2::from(by),
         vertices,
         normals,
         uvs,
@@ -85,13 +87,7 @@ pub fn hosirekar_centroid(
 ) -> CCentroid
     ensures { result ≡ centroid_to_c (centroid_of (counts_in counts) (shown vertices normals uvs indices)) }
 {
-    boundary::to_c::centroid_to_c(mesh::stored::centroid(
-        boundary::from_c::counts_in(counts),
-        vertices,
-        normals,
-        uvs,
-        indices,
-    ))
+    CCentroid::from(mesh::stored::centroid(Counts::from(counts), vertices, normals, uvs, indices))
 }
 
 // The middle of the uvs.
@@ -104,8 +100,8 @@ pub fn hosirekar_uv_centroid(
 ) -> CUvCentroid
     ensures { result ≡ uv_centroid_to_c (uv_centroid_of (counts_in counts) (shown vertices normals uvs indices)) }
 {
-    boundary::to_c::uv_centroid_to_c(mesh::stored::uv_centroid(
-        boundary::from_c::counts_in(counts),
+    CUvCentroid::from(mesh::stored::uv_centroid(
+        Counts::from(counts),
         vertices,
         normals,
         uvs,

@@ -456,59 +456,83 @@ pub cells_load : Fixes cells.specs.contracts.load.ended load-promise
 cells_load κs a x y v w p q = (determined p.0 q.0, λ i. (tt, (determined p.1 q.1 i, (determined p.2 q.2 i, tt))))
 
 -- ---- boundary
-pub boundary-from-c-vec2-of : Fixes boundary.specs.contracts.from_c.vec2_of.ended boundary.proofs.from_c.vec2_of.Reads.Learnt
-boundary-from-c-vec2-of κs a x y v w p q = (determined p q, refl)
+pub boundary-from-c-Vec2FromCVec2-from : Fixes boundary.specs.contracts.from_c.Vec2FromCVec2.from.ended boundary.proofs.from_c.Vec2FromCVec2.from.Reads.Learnt
+boundary-from-c-Vec2FromCVec2-from κs a x y v w p q = (determined p q, refl)
 
-pub boundary-from-c-vec3-of : Fixes boundary.specs.contracts.from_c.vec3_of.ended boundary.proofs.from_c.vec3_of.Reads.Learnt
-boundary-from-c-vec3-of κs a x y v w p q = (determined p q, refl)
+pub boundary-from-c-Vec3FromCVec3-from : Fixes boundary.specs.contracts.from_c.Vec3FromCVec3.from.ended boundary.proofs.from_c.Vec3FromCVec3.from.Reads.Learnt
+boundary-from-c-Vec3FromCVec3-from κs a x y v w p q = (determined p q, refl)
 
-pub boundary-from-c-counts-in : Fixes boundary.specs.contracts.from_c.counts_in.ended boundary.proofs.from_c.counts_in.Reads.Learnt
-boundary-from-c-counts-in κs a x y v w p q = (determined p q, refl)
+pub boundary-from-c-CountsFromCCounts-from : Fixes boundary.specs.contracts.from_c.CountsFromCCounts.from.ended boundary.proofs.from_c.CountsFromCCounts.from.Reads.Learnt
+boundary-from-c-CountsFromCCounts-from κs a x y v w p q = (determined p q, refl)
 
-pub boundary-from-c-uv-options-of : Fixes boundary.specs.contracts.from_c.uv_options_of.ended boundary.proofs.from_c.uv_options_of.Reads.Learnt
-boundary-from-c-uv-options-of κs a x y v w p q = (determined p q, refl)
+pub boundary-from-c-Choice3FromCChoice3-from : Fixes boundary.specs.contracts.from_c.Choice3FromCChoice3.from.ended boundary.proofs.from_c.Choice3FromCChoice3.from.Reads.Learnt
+boundary-from-c-Choice3FromCChoice3-from κs a x y v w p q = (determined p q, refl)
 
-pub boundary-jobs-plane-of : Fixes boundary.specs.contracts.jobs.plane_of.ended boundary.proofs.jobs.plane_of.Reads.Learnt
-boundary-jobs-plane-of κs a x y v w p q = (determined p q, refl)
+pub boundary-from-c-TurnFromCTurn-from : Fixes boundary.specs.contracts.from_c.TurnFromCTurn.from.ended boundary.proofs.from_c.TurnFromCTurn.from.Reads.Learnt
+boundary-from-c-TurnFromCTurn-from κs a x y v w p q = (determined p q, refl)
 
-pub boundary-jobs-column-of : Fixes boundary.specs.contracts.jobs.column_of.ended boundary.proofs.jobs.column_of.Reads.Learnt
-boundary-jobs-column-of κs a x y v w p q = (determined p q, refl)
+pub boundary-from-c-PlacementFromCPlacement-from : Fixes boundary.specs.contracts.from_c.PlacementFromCPlacement.from.ended boundary.proofs.from_c.PlacementFromCPlacement.from.Reads.Learnt
+boundary-from-c-PlacementFromCPlacement-from κs a x y v w p q = (determined p q, refl)
 
-pub boundary-jobs-cheap-column-of : Fixes boundary.specs.contracts.jobs.cheap_column_of.ended boundary.proofs.jobs.cheap_column_of.Reads.Learnt
-boundary-jobs-cheap-column-of κs a x y v w p q = (determined p q, refl)
+pub boundary-from-c-UvOptionsFromCUvOptions-from : Fixes boundary.specs.contracts.from_c.UvOptionsFromCUvOptions.from.ended boundary.proofs.from_c.UvOptionsFromCUvOptions.from.Reads.Learnt
+boundary-from-c-UvOptionsFromCUvOptions-from κs a x y v w p q = (determined p q, refl)
 
-pub boundary-to-c-answer-to-c : Fixes boundary.specs.contracts.to_c.answer_to_c.ended boundary.proofs.to_c.answer_to_c.Reads.Learnt
-boundary-to-c-answer-to-c κs a x y v w p q = (determined p q, refl)
+pub boundary-jobs-PlaneFromCPlane-from : Fixes boundary.specs.contracts.jobs.PlaneFromCPlane.from.ended boundary.proofs.jobs.PlaneFromCPlane.from.Reads.Learnt
+boundary-jobs-PlaneFromCPlane-from κs a x y v w p q = (determined p q, refl)
 
-pub boundary-to-c-point-to-c : Fixes boundary.specs.contracts.to_c.point_to_c.ended boundary.proofs.to_c.point_to_c.Reads.Learnt
-boundary-to-c-point-to-c κs a x y v w p q = (determined p q, refl)
+pub boundary-jobs-ChoiceFromCChoice-from : Fixes boundary.specs.contracts.jobs.ChoiceFromCChoice.from.ended boundary.proofs.jobs.ChoiceFromCChoice.from.Reads.Learnt
+boundary-jobs-ChoiceFromCChoice-from κs a x y v w p q = (determined p q, refl)
 
-pub boundary-to-c-centroid-to-c : Fixes boundary.specs.contracts.to_c.centroid_to_c.ended boundary.proofs.to_c.centroid_to_c.Reads.Learnt
-boundary-to-c-centroid-to-c κs a x y v w p q = (determined p q, refl)
+pub boundary-jobs-SideFromCChoice-from : Fixes boundary.specs.contracts.jobs.SideFromCChoice.from.ended boundary.proofs.jobs.SideFromCChoice.from.Reads.Learnt
+boundary-jobs-SideFromCChoice-from κs a x y v w p q = (determined p q, refl)
 
-pub boundary-to-c-uv-centroid-to-c : Fixes boundary.specs.contracts.to_c.uv_centroid_to_c.ended boundary.proofs.to_c.uv_centroid_to_c.Reads.Learnt
-boundary-to-c-uv-centroid-to-c κs a x y v w p q = (determined p q, refl)
+pub boundary-jobs-SubdivisionsFromCSubdivisions-from : Fixes boundary.specs.contracts.jobs.SubdivisionsFromCSubdivisions.from.ended boundary.proofs.jobs.SubdivisionsFromCSubdivisions.from.Reads.Learnt
+boundary-jobs-SubdivisionsFromCSubdivisions-from κs a x y v w p q = (determined p q, refl)
 
-pub boundary-to-c-faces-to-c : Fixes boundary.specs.contracts.to_c.faces_to_c.ended boundary.proofs.to_c.faces_to_c.Reads.Learnt
-boundary-to-c-faces-to-c κs a x y v w p q = (determined p q, refl)
+pub boundary-jobs-ColumnFromCColumn-from : Fixes boundary.specs.contracts.jobs.ColumnFromCColumn.from.ended boundary.proofs.jobs.ColumnFromCColumn.from.Reads.Learnt
+boundary-jobs-ColumnFromCColumn-from κs a x y v w p q = (determined p q, refl)
 
-pub boundary-to-c-window-to-c : Fixes boundary.specs.contracts.to_c.window_to_c.ended boundary.proofs.to_c.window_to_c.Reads.Learnt
-boundary-to-c-window-to-c κs a x y v w p q = (determined p q, refl)
+pub boundary-jobs-CheapColumnFromCCheapColumn-from : Fixes boundary.specs.contracts.jobs.CheapColumnFromCCheapColumn.from.ended boundary.proofs.jobs.CheapColumnFromCCheapColumn.from.Reads.Learnt
+boundary-jobs-CheapColumnFromCCheapColumn-from κs a x y v w p q = (determined p q, refl)
 
-pub boundary-to-c-why-to-c : Fixes boundary.specs.contracts.to_c.why_to_c.ended boundary.proofs.to_c.why_to_c.Reads.Learnt
-boundary-to-c-why-to-c κs a x y v w p q = (determined p q, refl)
+pub boundary-jobs-HeightRangeFromCRange-from : Fixes boundary.specs.contracts.jobs.HeightRangeFromCRange.from.ended boundary.proofs.jobs.HeightRangeFromCRange.from.Reads.Learnt
+boundary-jobs-HeightRangeFromCRange-from κs a x y v w p q = (determined p q, refl)
 
-pub boundary-to-c-which-to-c : Fixes boundary.specs.contracts.to_c.which_to_c.ended boundary.proofs.to_c.which_to_c.Reads.Learnt
-boundary-to-c-which-to-c κs a x y v w p q = (determined p q, refl)
+pub boundary-jobs-OriginFromCOrigin-from : Fixes boundary.specs.contracts.jobs.OriginFromCOrigin.from.ended boundary.proofs.jobs.OriginFromCOrigin.from.Reads.Learnt
+boundary-jobs-OriginFromCOrigin-from κs a x y v w p q = (determined p q, refl)
 
-pub boundary-jobs-is-fringe : Fixes boundary.specs.contracts.jobs.is_fringe.ended boundary.proofs.jobs.is_fringe.Reads.Learnt
-boundary-jobs-is-fringe κs a x y v w p q = (determined p q, refl)
+pub boundary-jobs-HeightMapTryFromCHeightMap-try-from : Fixes boundary.specs.contracts.jobs.HeightMapTryFromCHeightMap.try_from.ended boundary.proofs.jobs.HeightMapTryFromCHeightMap.try_from.Reads.Learnt
+boundary-jobs-HeightMapTryFromCHeightMap-try-from κs a x y v w p q = (determined p q, refl)
 
-pub boundary-jobs-heightmap-of : Fixes boundary.specs.contracts.jobs.heightmap_of.ended boundary.proofs.jobs.heightmap_of.Reads.Learnt
-boundary-jobs-heightmap-of κs a x y v w p q = (determined p q, refl)
+pub boundary-to-c-CAnswerFromAnswer-from : Fixes boundary.specs.contracts.to_c.CAnswerFromAnswer.from.ended boundary.proofs.to_c.CAnswerFromAnswer.from.Reads.Learnt
+boundary-to-c-CAnswerFromAnswer-from κs a x y v w p q = (determined p q, refl)
 
-pub boundary-to-c-file-to-c : Fixes boundary.specs.contracts.to_c.file_to_c.ended boundary.proofs.to_c.file_to_c.Reads.Learnt
-boundary-to-c-file-to-c κs a x y v w p q = (determined p q, refl)
+pub boundary-to-c-CVec2FromVec2-from : Fixes boundary.specs.contracts.to_c.CVec2FromVec2.from.ended boundary.proofs.to_c.CVec2FromVec2.from.Reads.Learnt
+boundary-to-c-CVec2FromVec2-from κs a x y v w p q = (determined p q, refl)
+
+pub boundary-to-c-CVec3FromVec3-from : Fixes boundary.specs.contracts.to_c.CVec3FromVec3.from.ended boundary.proofs.to_c.CVec3FromVec3.from.Reads.Learnt
+boundary-to-c-CVec3FromVec3-from κs a x y v w p q = (determined p q, refl)
+
+pub boundary-to-c-CCentroidFromCentroidAnswer-from : Fixes boundary.specs.contracts.to_c.CCentroidFromCentroidAnswer.from.ended boundary.proofs.to_c.CCentroidFromCentroidAnswer.from.Reads.Learnt
+boundary-to-c-CCentroidFromCentroidAnswer-from κs a x y v w p q = (determined p q, refl)
+
+pub boundary-to-c-CUvCentroidFromUvCentroidAnswer-from : Fixes boundary.specs.contracts.to_c.CUvCentroidFromUvCentroidAnswer.from.ended boundary.proofs.to_c.CUvCentroidFromUvCentroidAnswer.from.Reads.Learnt
+boundary-to-c-CUvCentroidFromUvCentroidAnswer-from κs a x y v w p q = (determined p q, refl)
+
+pub boundary-to-c-CFacesFromFacesAnswer-from : Fixes boundary.specs.contracts.to_c.CFacesFromFacesAnswer.from.ended boundary.proofs.to_c.CFacesFromFacesAnswer.from.Reads.Learnt
+boundary-to-c-CFacesFromFacesAnswer-from κs a x y v w p q = (determined p q, refl)
+
+pub boundary-to-c-CWindowFromWindowAnswer-from : Fixes boundary.specs.contracts.to_c.CWindowFromWindowAnswer.from.ended boundary.proofs.to_c.CWindowFromWindowAnswer.from.Reads.Learnt
+boundary-to-c-CWindowFromWindowAnswer-from κs a x y v w p q = (determined p q, refl)
+
+pub boundary-to-c-CFileFromFileAnswer-from : Fixes boundary.specs.contracts.to_c.CFileFromFileAnswer.from.ended boundary.proofs.to_c.CFileFromFileAnswer.from.Reads.Learnt
+boundary-to-c-CFileFromFileAnswer-from κs a x y v w p q = (determined p q, refl)
+
+pub boundary-to-c-CWhyFromWhyAnswer-from : Fixes boundary.specs.contracts.to_c.CWhyFromWhyAnswer.from.ended boundary.proofs.to_c.CWhyFromWhyAnswer.from.Reads.Learnt
+boundary-to-c-CWhyFromWhyAnswer-from κs a x y v w p q = (determined p q, refl)
+
+pub boundary-to-c-CWhichFromWhichAnswer-from : Fixes boundary.specs.contracts.to_c.CWhichFromWhichAnswer.from.ended boundary.proofs.to_c.CWhichFromWhichAnswer.from.Reads.Learnt
+boundary-to-c-CWhichFromWhichAnswer-from κs a x y v w p q = (determined p q, refl)
 
 -- ---- column_builder
 pub column-builder-plan : Fixes column_builder.specs.contracts.plan.ended column_builder.proofs.plan.Reads.Learnt

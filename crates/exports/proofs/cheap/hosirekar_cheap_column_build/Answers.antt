@@ -21,4 +21,4 @@ shape_of-indices c = c.build.auto.indices
 pub returns : goal.returns
 returns c = let a = c.args in
     let B = four a.vertices.now a.normals.now a.uvs.now a.indices.now in
-    let same = c.cheap_column_of.ensures in record { answer = carried answer_to_c c.answer_to_c.ensures (carried (λ (j : CheapColumn). whole_answer j a.corners.now B) c.build.ensures.answer same); buffers = carried (λ (j : CheapColumn). built j a.corners.now B) c.build.ensures.buffers same }
+    let same = c.from.ensures in record { answer = carried answer_to_c c.from-2.ensures (carried (λ (j : CheapColumn). whole_answer j a.corners.now B) c.build.ensures.answer same); buffers = carried (λ (j : CheapColumn). built j a.corners.now B) c.build.ensures.buffers same }

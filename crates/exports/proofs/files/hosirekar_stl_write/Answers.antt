@@ -10,5 +10,5 @@ use Rattle.exports.proofs.files.hosirekar_stl_write.Goals as goal
 pub returns : goal.returns
 returns c = let a = c.args in
     let M = four a.vertices.now a.normals.now a.uvs.now a.indices.now in
-    let from = c.counts_in.ensures in
-    let told = carried (λ (n : Counts). file_answer n M (length a.bytes.now)) c.write.ensures.answer from in record { answer = carried file_to_c c.file_to_c.ensures told; bytes = carried (λ (n : Counts). written n M a.bytes.now) c.write.ensures.bytes from }
+    let from = c.from.ensures in
+    let told = carried (λ (n : Counts). file_answer n M (length a.bytes.now)) c.write.ensures.answer from in record { answer = carried file_to_c c.from-2.ensures told; bytes = carried (λ (n : Counts). written n M a.bytes.now) c.write.ensures.bytes from }

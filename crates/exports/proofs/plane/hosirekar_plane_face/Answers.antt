@@ -22,4 +22,4 @@ pub returns : goal.returns
 returns c = let a = c.args in
     let ls = lists a.corners.now a.numbers.now a.marks.now in
     let B = four a.vertices.now a.normals.now a.uvs.now a.indices.now in
-    let same = c.plane_of.ensures in record { answer = carried answer_to_c c.answer_to_c.ensures (carried (λ (j : Plane). face_answer j ls a.number B) c.face.ensures.answer same); buffers = carried (λ (j : Plane). faced j ls a.number B) c.face.ensures.buffers same }
+    let same = c.from.ensures in record { answer = carried answer_to_c c.from-2.ensures (carried (λ (j : Plane). face_answer j ls a.number B) c.face.ensures.answer same); buffers = carried (λ (j : Plane). faced j ls a.number B) c.face.ensures.buffers same }

@@ -1,8 +1,0 @@
--- `choice_of`: by what its bool says. Assumes nothing.
-use Rattle.boundary.proofs.jobs.choice_of.Goals as goal
-
-pub returns-then-c : goal.returns-then-c
-returns-then-c c = rw c.if-c.true
-
-pub returns : goal.returns
-returns c = rw c.if-c.false
