@@ -19,11 +19,6 @@ use Rattle.heightmap.specs.declared.Wall.TheVariants.{SidesOff, NothingBeyond, A
 use Rattle.heightmap.specs.declared.HeightMap.{HeightMap}
 use Rattle.heightmap.specs.Grid.{Grid, grid, height_at, nobody, neighbour_at, fringe_at, against, edge_by, beside_by, wall_by, wall, present, On, BeyondEdge, Beyond, Lower}
 
--- where the neighbour is none, the list of neighbours says no more
-pub edge-alone : (f : Fringe) (cs : List Float) (ns : List ℕ) (fs : List Float) (k d : ℕ) → edge_by f (grid cs [] fs) k d ≡ edge_by f (grid cs ns fs) k d
-edge-alone fringe.Bare cs ns fs k d = refl
-edge-alone fringe.Listed cs ns fs k d = refl
-
 -- ---- the four reasons
 abbrev pub WhyBy : Choice → Fringe → Grid → ℕ → ℕ → Wall → Type 0
 WhyBy c f g k d SidesOff = c ≡ option.Absent

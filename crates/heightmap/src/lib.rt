@@ -1,5 +1,6 @@
 // What a height map is, after heightmap_builder.rs of hexx: its job and its faces' names; in grid.rt its cells and their
-// walls, in options.rt the option of a face and where it stands. All by value.
+// walls, in options.rt the option of a face and where it stands. A job is passed by value, and
+// so is the one struct of the lists that are lent beside it.
 #![tactic(auto)]
 
 pub mod grid;
@@ -57,6 +58,16 @@ pub enum Wall {
 pub enum Name {
     Cap(usize),
     Side(usize, u8),
+}
+
+// What is lent beside a map: its grid, seven option numbers a cell, the six corners of every cap, and the table of options.
+#[derive(Clone, Copy)]
+pub struct Lists<'a> {
+    pub grid: grid::Grid<'a>,
+    pub customs: &'a [u8],
+    pub corners: &'a [f32],
+    pub numbers: &'a [f32],
+    pub marks: &'a [u8],
 }
 
 // An absent option drops all caps, or all sides.
