@@ -1,19 +1,16 @@
-use mathlib.Core.Path.{◌≡◌, ap, sym, ◌∙◌}
+use mathlib.Core.Path.{◌≡◌, ap, ◌∙◌}
 use native.Mathlib.Numerals.{add-one}
 use native.Mathlib.Omega.{arith}
 use lib.ListN.{length, length-append}
 use Rattle.face.specs.Lists.{chain}
 use Rattle.buffers.specs.Mesh.{also, summed}
-use Rattle.buffers.proofs.Windows.{also-assoc, also-none}
+use Rattle.buffers.proofs.Windows.{also-assoc}
 use Rattle.heightmap.specs.HeightMap.{seen, side_names}
 use Rattle.heightmap.specs.Counts.{side_counts}
 use Rattle.heightmap_plan.specs.declared.tally.Tally.{Tally}
 use Rattle.heightmap_plan.proofs.Walking.{Small, side-small, sides-small}
 use Rattle.heightmap_plan.proofs.Finding.{side-found}
 use Rattle.heightmap_plan.proofs.names.find_side.Goals as goal
-
-pub loop-d-init : goal.loop-d-init
-loop-d-init c = let a = c.args in (omega arith, (omega arith, sym (also-none a.from)))
 
 pub returns-then-t-side : goal.returns-then-t-side
 returns-then-t-side c = let a = c.args in let ls = seen a.lists in let i = c.loop-d in let f : c.side_tally-side.result.faces ≡ length (side_names a.job ls.grid a.k i.d) = ap (λ (t : Tally). t.faces) c.side_tally-side.ensures in let h = c.if-t-side.true in side-found a.job ls a.k i.d i.t a.left a.from i.start (let u = c.loop-d-test.true in omega arith) (omega arith) i.invariant.1.0 i.invariant.1.1

@@ -1,14 +1,9 @@
 -- `survey_faces`: the cell that the walk finds, and the face in it. Assumes nothing.
-use mathlib.Core.Path.{◌≡◌, sym, ap, ap₂, ◌∙◌}
-use borrow.Author.Rules.{rules}
+use mathlib.Core.Path.{sym, ap₂, ◌∙◌}
 use borrow.Author.Tests.{leb-true}
 use Rattle.heightmap.specs.HeightMap.{seen}
-use Rattle.heightmap.specs.declared.Name.TheVariants.{Cap}
 use Rattle.heightmap_plan.specs.declared.tally.Goal.TheVariants.{Face}
-use Rattle.heightmap_plan.specs.declared.tally.Tally.{Tally}
-use Rattle.heightmap_plan.specs.Finding.{survey_by, found_by}
-use Rattle.buffers.specs.Mesh.{none}
-use Rattle.heightmap_plan.specs.Walking.{tally_by}
+use Rattle.heightmap_plan.specs.Finding.{survey_by}
 use Rattle.heightmap_plan.proofs.Walking.{map-counted}
 use Rattle.heightmap_plan.proofs.Finding.{not-before, before_small, none_found, left_in, map_found}
 use Rattle.heightmap_plan.proofs.names.survey_faces.Goals as goal
@@ -24,6 +19,3 @@ returns-then-number-all c = let a = c.args in let ls = seen a.lists in rw (sym (
 
 pub returns : goal.returns
 returns c = let a = c.args in let ls = seen a.lists in rw (sym (rw c.cell_count-n.ensures at c.is_cell_count.ensures) ∙ c.if-not-is_cell_count.false) (c.no_face-2.ensures ∙ ap₂ survey_by (map-counted a.job ls (Face a.number) _ _ c.walk_cells-w.ensures c.cell_count-n.ensures) (none_found a.job ls a.number _ _ c.walk_cells-w.ensures c.cell_count-n.ensures c.if-number-all.false))
-
-pub returns-then-not-is_cell_count : goal.returns-then-not-is_cell_count
-returns-then-not-is_cell_count c = rw (sym (rw c.cell_count-n.ensures at c.is_cell_count.ensures) ∙ c.if-not-is_cell_count.true) (c.no_face.ensures ∙ ap (λ (t : Tally). survey_by t (found_by (Cap 0) t.counts)) (let e : c.default.result ≡ tally_by 0 none = search rules in e))

@@ -1,11 +1,8 @@
 -- `survey_side`: the walk over all cells, with what lies before the side's. Assumes nothing.
-use mathlib.Core.Path.{◌≡◌, sym, ◌∙◌}
-use borrow.Author.Rules.{rules}
+use mathlib.Core.Path.{sym, ◌∙◌}
 use borrow.Author.Tests.{leb-true, lt-ltb, le-ltb}
 use Rattle.heightmap.specs.HeightMap.{seen}
-use Rattle.buffers.specs.Mesh.{none}
-use Rattle.heightmap_plan.specs.Walking.{tally_by}
-use Rattle.heightmap_plan.proofs.Finding.{side_before, all-walked, side-placed, no_cell_lem, too_many}
+use Rattle.heightmap_plan.proofs.Finding.{side_before, all-walked, side-placed, no_cell_lem}
 use Rattle.heightmap_plan.proofs.names.survey_side.Goals as goal
 
 pub number_after-number-requires : goal.number_after-number-requires
@@ -26,9 +23,3 @@ returns c = let a = c.args in
     let n = c.cell_count-n.ensures in
     let few = sym (rw n at c.is_cell_count.ensures) ∙ c.if-not-is_cell_count.false in
     no_cell_lem a.job ls a.k a.d _ (all-walked a.job ls a.k _ _ c.walk_cells-w.ensures n few) (rw n at (le-ltb _ _ c.if-k-n.false))
-
-pub returns-then-not-is_cell_count : goal.returns-then-not-is_cell_count
-returns-then-not-is_cell_count c = let a = c.args in
-    let ls = seen a.lists in
-    let many = sym (rw c.cell_count-n.ensures at c.is_cell_count.ensures) ∙ c.if-not-is_cell_count.true in
-    too_many a.job ls a.k a.d _ ((let e : c.default-all.result ≡ tally_by 0 none = search rules in e) ∙ sym (rw many)) many

@@ -1,15 +1,10 @@
 -- `cell_start`: the walk over the cells before it. Assumes nothing.
-use mathlib.Core.Path.{◌≡◌, sym, ap, ◌∙◌}
+use mathlib.Core.Path.{sym, ap, ◌∙◌}
 use Rattle.heightmap_plan.specs.declared.tally.Tally.{Tally}
 use Rattle.heightmap_plan.specs.declared.tally.Goal.TheVariants.{Cell}
-use borrow.Author.Rules.{rules}
 use Rattle.heightmap.specs.HeightMap.{seen}
-use Rattle.buffers.specs.Mesh.{none}
 use Rattle.heightmap_plan.proofs.Walking.{walk-counted}
 use Rattle.heightmap_plan.proofs.tally.cell_start.Goals as goal
 
 pub returns-then-is_cell_count : goal.returns-then-is_cell_count
 returns-then-is_cell_count c = let a = c.args in let ls = seen a.lists in rw (sym c.is_cell_count.ensures ∙ c.if-is_cell_count.true) (ap (λ (t : Tally). t.counts) (walk-counted a.job ls (Cell 0) a.k _ c.walk_cells.ensures))
-
-pub returns : goal.returns
-returns c = rw (sym c.is_cell_count.ensures ∙ c.if-is_cell_count.false) (let e : c.default.result ≡ none = search rules in e)

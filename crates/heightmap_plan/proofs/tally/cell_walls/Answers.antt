@@ -7,6 +7,3 @@ use Rattle.heightmap_plan.proofs.tally.cell_walls.Goals as goal
 
 pub returns-in-Absent : goal.returns-in-Absent
 returns-in-Absent c = let a = c.args in let g = seen_grid a.grid in record { sum = rw c.in-Absent.is (sym (no-walls a.job.fringe g a.k a.n)); small = omega arith }
-
-pub returns-in-With : goal.returns-in-With
-returns-in-With c = record { sum = rw c.in-With.is c.walls_beside.ensures.sum; small = c.walls_beside.ensures.small }
