@@ -1,16 +1,15 @@
 use mathlib.Core.Path.{◌≡◌, sym, ap, ◌∙◌}
 use native.Mathlib.Omega.{arith}
 use borrow.Author.Rules.{rules}
-use Rattle.buffers.specs.Laying.{Buffers, four, lay_each}
+use Rattle.buffers.specs.Laying.{four, lay_each}
 use Rattle.heightmap.specs.HeightMap.{seen}
 use Prim.Native.Nat.{ℕ}
 use mathlib.Core.List.{map}
 use mathlib.Core.Logic.{inl, inr}
 use native.Mathlib.Numerals.{add-one}
-use lib.ListN.{length}
 use Rattle.face.specs.Lists.{chain}
 use Rattle.buffers.specs.Mesh.{none}
-use Rattle.buffers.proofs.Each.{so-far-none, each-lengths}
+use Rattle.buffers.proofs.Each.{so-far-none}
 use Rattle.heightmap.specs.declared.Name.TheVariants.{Cap}
 use mathlib.Core.Bool.{cond}
 use Rattle.answer.specs.Checks.{cell_count}
@@ -19,7 +18,7 @@ use Rattle.heightmap_faces.specs.declared.kept.KeptTop.{KeptTop}
 use Rattle.heightmap_faces.specs.Speed.{top_of}
 use Rattle.heightmap_faces.specs.Kept.{top_by}
 use Rattle.heightmap_laying.specs.declared.Shared.{Shared}
-use Rattle.heightmap_laying.proofs.Cells.{shared-for, tops-kept, cell-more, all_laid_lem}
+use Rattle.heightmap_laying.proofs.Cells.{tops-kept, cell-more, all_laid_lem}
 use Rattle.heightmap_laying.proofs.Walls.{option-chosen}
 use Rattle.heightmap_laying.proofs.put_all.Goals as goal
 use Rattle.heightmap_laying.proofs.put_all.Goals.{then-number-own, else-number-own}
@@ -29,16 +28,6 @@ loop-k-init c = let a = c.args in
     let e = c.top_by-own.ensures in
     let z : c.default-place.result ≡ none = search rules in
     rw z (omega arith, (so-far-none none (four a.vertices.now a.normals.now a.uvs.now a.indices.now), ((omega arith, omega arith), e ∙ ap (top_by a.lists.corners.now a.lists.numbers.now a.lists.marks.now) (sym (ap (λ (x : KeptTop). x.number) e)))))
-
-pub put_cell-place-requires : goal.put_cell-place-requires
-put_cell-place-requires c = let a = c.args in
-    let i = c.loop-k.invariant in record { s_value = shared-for a.job (seen a.lists) _ c.shared_of-s.ensures; vertices_bound = (omega (arith, i.1.1.0.0, c.loop-k-test.true, c.up_to-n.ensures.small), omega (arith, i.1.1.0.1, c.loop-k-test.true, c.up_to-n.ensures.small)) }
-
-pub overflow_step-k : goal.overflow_step-k
-overflow_step-k c = omega (arith, c.loop-k-test.true, c.up_to-n.ensures.small)
-
-pub loop-k-smaller : goal.loop-k-smaller
-loop-k-smaller c = omega (arith, c.loop-k-test.true)
 
 pub loop-k-preserved : goal.loop-k-preserved
 loop-k-preserved c = let a = c.args in
@@ -57,22 +46,6 @@ loop-k-preserved c = let a = c.args in
         ((omega (arith, e.small.0, L.invariant.1.1.0.0), omega (arith, e.small.1, L.invariant.1.1.0.1)), g.0),
       ),
     )
-
-pub shape_of-vertices : goal.shape_of-vertices
-shape_of-vertices c = let a = c.args in
-    ap (λ (X : Buffers). length X.vertices) c.loop-k.invariant.1.0.1 ∙ (each-lengths (map (mesh_of a.job (seen a.lists)) (chain (cell_names a.job (seen a.lists).grid) c.loop-k.k)) _ (four a.vertices.now a.normals.now a.uvs.now a.indices.now)).vertices
-
-pub shape_of-normals : goal.shape_of-normals
-shape_of-normals c = let a = c.args in
-    ap (λ (X : Buffers). length X.normals) c.loop-k.invariant.1.0.1 ∙ (each-lengths (map (mesh_of a.job (seen a.lists)) (chain (cell_names a.job (seen a.lists).grid) c.loop-k.k)) _ (four a.vertices.now a.normals.now a.uvs.now a.indices.now)).normals
-
-pub shape_of-uvs : goal.shape_of-uvs
-shape_of-uvs c = let a = c.args in
-    ap (λ (X : Buffers). length X.uvs) c.loop-k.invariant.1.0.1 ∙ (each-lengths (map (mesh_of a.job (seen a.lists)) (chain (cell_names a.job (seen a.lists).grid) c.loop-k.k)) _ (four a.vertices.now a.normals.now a.uvs.now a.indices.now)).uvs
-
-pub shape_of-indices : goal.shape_of-indices
-shape_of-indices c = let a = c.args in
-    ap (λ (X : Buffers). length X.indices) c.loop-k.invariant.1.0.1 ∙ (each-lengths (map (mesh_of a.job (seen a.lists)) (chain (cell_names a.job (seen a.lists).grid) c.loop-k.k)) _ (four a.vertices.now a.normals.now a.uvs.now a.indices.now)).indices
 
 pub returns : goal.returns
 returns c = let a = c.args in

@@ -12,13 +12,6 @@ use Rattle.heightmap_laying.specs.declared.Shared.{Shared}
 use Rattle.heightmap_laying.specs.Shared.{top_faces, sides_faces}
 use Rattle.heightmap_laying.proofs.put_cell.Goals as goal
 
-pub put_cap_if-next-requires : goal.put_cap_if-next-requires
-put_cap_if-next-requires c = (omega (arith, c.requires.vertices_bound.0), omega (arith, c.requires.vertices_bound.1))
-
-pub put_sides-requires : goal.put_sides-requires
-put_sides-requires c = let m = c.put_cap_if-next.ensures.small in
-    let p = c.requires in record { s_value = p.s_value; vertices_bound = (omega (arith, m.0, p.vertices_bound.0), omega (arith, m.1, p.vertices_bound.1)) }
-
 pub returns : goal.returns
 returns c = let a = c.args in
     let X = four a.vertices.now a.normals.now a.uvs.now a.indices.now in

@@ -9,11 +9,6 @@ use Rattle.heightmap_laying.specs.Shared.{level_mesh, level_faces}
 use Rattle.heightmap_laying.proofs.Steps.{no_step, one-step, level-size, quad-small}
 use Rattle.heightmap_laying.proofs.put_wall.Goals as goal
 
-pub add-requires : goal.add-requires
-add-requires c = let a = c.args in
-    let m = quad-small a.v.skin.inset in
-    rw c.counts_of.ensures (omega (arith, m.0, c.requires.0), omega (arith, m.1, c.requires.1))
-
 pub returns : goal.returns
 returns c = let a = c.args in
     let X = four a.vertices.now a.normals.now a.uvs.now a.indices.now in
