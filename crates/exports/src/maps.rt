@@ -3,13 +3,39 @@
 // twelve, and a table of options in two lists.
 ghost use Rattle.std.specs.Prelude.{◌≡◌};
 ghost use Rattle.buffers.specs.Lent.{entering, Become};
-ghost use Rattle.heightmap.specs.HeightMap.{lent};
+ghost use Rattle.heightmap.specs.HeightMap.{lent, seen};
 ghost use Rattle.boundary.specs.Maps.{map_planned, map_whole, map_face, map_built, map_faced, map_faces_told, map_window_told, map_why_told, map_which_told};
 ghost use Rattle.boundary.specs.ToC.{answer_to_c, faces_to_c, window_to_c, why_to_c, which_to_c};
 
 use answer::answer::Refusal;
 use boundary::jobs::CHeightMap;
 use boundary::to_c::{CAnswer, CFaces, CWhich, CWhy, CWindow};
+use heightmap::Lists;
+use heightmap::grid::Grid;
+
+fn lists_of<'a>(
+    cells: &'a [f32],
+    neighbours: &'a [u32],
+    fringe: &'a [f32],
+    customs: &'a [u8],
+    corners: &'a [f32],
+    numbers: &'a [f32],
+    marks: &'a [u8],
+) -> Lists<'a>
+    ensures { seen result ≡ lent cells neighbours fringe customs corners numbers marks }
+{
+    Lists {
+        grid: Grid {
+            cells,
+            neighbours,
+            fringe,
+        },
+        customs,
+        corners,
+        numbers,
+        marks,
+    }
+}
 
 // The counts of the job, or why it is refused.
 pub fn hosirekar_heightmap_plan(
@@ -27,13 +53,7 @@ pub fn hosirekar_heightmap_plan(
     if boundary::jobs::is_fringe(job.fringe) {
         return boundary::to_c::answer_to_c(heightmap_builder::plan(
             boundary::jobs::heightmap_of(job),
-            cells,
-            neighbours,
-            fringe,
-            customs,
-            corners,
-            numbers,
-            marks,
+            lists_of(cells, neighbours, fringe, customs, corners, numbers, marks),
         ));
     }
     boundary::to_c::answer_to_c(Err(Refusal::Shape))
@@ -55,13 +75,7 @@ pub fn hosirekar_heightmap_faces(
     if boundary::jobs::is_fringe(job.fringe) {
         return boundary::to_c::faces_to_c(heightmap_plan::window::faces(
             boundary::jobs::heightmap_of(job),
-            cells,
-            neighbours,
-            fringe,
-            customs,
-            corners,
-            numbers,
-            marks,
+            lists_of(cells, neighbours, fringe, customs, corners, numbers, marks),
         ));
     }
     boundary::to_c::faces_to_c(Err(Refusal::Shape))
@@ -84,13 +98,7 @@ pub fn hosirekar_heightmap_window(
     if boundary::jobs::is_fringe(job.fringe) {
         return boundary::to_c::window_to_c(heightmap_plan::window::window(
             boundary::jobs::heightmap_of(job),
-            cells,
-            neighbours,
-            fringe,
-            customs,
-            corners,
-            numbers,
-            marks,
+            lists_of(cells, neighbours, fringe, customs, corners, numbers, marks),
             number,
         ));
     }
@@ -116,13 +124,7 @@ pub fn hosirekar_heightmap_why(
     if boundary::jobs::is_fringe(job.fringe) {
         return boundary::to_c::why_to_c(heightmap_why::why(
             boundary::jobs::heightmap_of(job),
-            cells,
-            neighbours,
-            fringe,
-            customs,
-            corners,
-            numbers,
-            marks,
+            lists_of(cells, neighbours, fringe, customs, corners, numbers, marks),
             cell,
             side,
         ));
@@ -147,13 +149,7 @@ pub fn hosirekar_heightmap_which(
     if boundary::jobs::is_fringe(job.fringe) {
         return boundary::to_c::which_to_c(heightmap_why::which(
             boundary::jobs::heightmap_of(job),
-            cells,
-            neighbours,
-            fringe,
-            customs,
-            corners,
-            numbers,
-            marks,
+            lists_of(cells, neighbours, fringe, customs, corners, numbers, marks),
             number,
         ));
     }
@@ -181,13 +177,7 @@ pub fn hosirekar_heightmap_build(
     if boundary::jobs::is_fringe(job.fringe) {
         return boundary::to_c::answer_to_c(heightmap_builder::build(
             boundary::jobs::heightmap_of(job),
-            cells,
-            neighbours,
-            fringe,
-            customs,
-            corners,
-            numbers,
-            marks,
+            lists_of(cells, neighbours, fringe, customs, corners, numbers, marks),
             vertices,
             normals,
             uvs,
@@ -219,13 +209,7 @@ pub fn hosirekar_heightmap_face(
     if boundary::jobs::is_fringe(job.fringe) {
         return boundary::to_c::answer_to_c(heightmap_builder::face(
             boundary::jobs::heightmap_of(job),
-            cells,
-            neighbours,
-            fringe,
-            customs,
-            corners,
-            numbers,
-            marks,
+            lists_of(cells, neighbours, fringe, customs, corners, numbers, marks),
             number,
             vertices,
             normals,

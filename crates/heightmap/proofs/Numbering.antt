@@ -174,17 +174,3 @@ module _ (job : HeightMap) (ls : Lists) where
       (start_right f c (chain s 6) (length (chain s d) + 0)
       ∙ ap₂ also (cap-sum job ls k)
       (chain-start f s 6 d 0 l (stands-below (s d) 0 (Side k d) there) ∙ also-none (measure (map f (chain s d))) ∙ sides-sum job ls k d))
-
-starts-alike : (f h : Name → Mesh) → ((n : Name) → size_of (f n) ≡ size_of (h n)) → (ns : List Name) (i : ℕ) → start_of (map f ns) i ≡ start_of (map h ns) i
-starts-alike f h e [] zero = refl
-starts-alike f h e [] (suc i) = refl
-starts-alike f h e (n ∷ ns) zero = refl
-starts-alike f h e (n ∷ ns) (suc i) = ap₂ also (e n) (starts-alike f h e ns i)
-
--- it is the same whatever the corners are
-pub start-alike : (job : HeightMap) (g : Grid) (us : List ℕ) (cs ds ns : List Float) (ms : List ℕ) (i : ℕ) → start_by job (lists g us cs ns ms) i ≡ start_by job (lists g us ds ns ms) i
-start-alike job g us cs ds ns ms i = starts-alike (mesh_of job (lists g us cs ns ms)) (mesh_of job (lists g us ds ns ms)) same (map_names job g) i
-  where
-    same : (n : Name) → size_of (mesh_of job (lists g us cs ns ms) n) ≡ size_of (mesh_of job (lists g us ds ns ms) n)
-    same (Cap k) = size-of job (lists g us cs ns ms) (Cap k) ∙ sym (size-of job (lists g us ds ns ms) (Cap k))
-    same (Side k d) = size-of job (lists g us cs ns ms) (Side k d) ∙ sym (size-of job (lists g us ds ns ms) (Side k d))

@@ -29,10 +29,6 @@ use Rattle.heightmap_faces.proofs.Plain.{cap-is}
 use Rattle.heightmap_laying.specs.declared.Shared.{Shared}
 use Rattle.heightmap_laying.specs.Shared.{shared_of, top_faces, sides_faces, cell_faces, all_laid}
 
--- what is shared is that of its job
-pub shared-for : (job : HeightMap) (ls : Lists) (s : Shared) → s ≡ shared_of job ls → s ≡ shared_of s.job ls
-shared-for job ls s e = e ∙ ap (λ (j : HeightMap). shared_of j ls) (sym (ap (λ (x : Shared). x.job) e))
-
 -- of the caps that are kept, the one of a number: the first where it is that number's, else the other, made anew if need be
 module _ (cs ns : List Float) (ms : List ℕ) where
   kept-or : (kept : KeptTop) (n : ℕ) (b : Bool) → kept ≡ top_by cs ns ms kept.number → eqb n kept.number ≡ b → cond b kept (top_by cs ns ms n) ≡ top_by cs ns ms n
