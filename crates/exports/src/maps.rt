@@ -3,39 +3,14 @@
 // twelve, and a table of options in two lists.
 ghost use Rattle.std.specs.Prelude.{◌≡◌};
 ghost use Rattle.buffers.specs.Lent.{entering, Become};
-ghost use Rattle.heightmap.specs.HeightMap.{lent, seen};
+ghost use Rattle.heightmap.specs.HeightMap.{lent};
 ghost use Rattle.boundary.specs.Maps.{map_planned, map_whole, map_face, map_built, map_faced, map_faces_told, map_window_told, map_why_told, map_which_told};
 ghost use Rattle.boundary.specs.ToC.{answer_to_c, faces_to_c, window_to_c, why_to_c, which_to_c};
 
+use crate::lists::lists_of;
 use answer::answer::Refusal;
 use boundary::jobs::CHeightMap;
 use boundary::to_c::{CAnswer, CFaces, CWhich, CWhy, CWindow};
-use heightmap::Lists;
-use heightmap::grid::Grid;
-
-fn lists_of<'a>(
-    cells: &'a [f32],
-    neighbours: &'a [u32],
-    fringe: &'a [f32],
-    customs: &'a [u8],
-    corners: &'a [f32],
-    numbers: &'a [f32],
-    marks: &'a [u8],
-) -> Lists<'a>
-    ensures { seen result ≡ lent cells neighbours fringe customs corners numbers marks }
-{
-    Lists {
-        grid: Grid {
-            cells,
-            neighbours,
-            fringe,
-        },
-        customs,
-        corners,
-        numbers,
-        marks,
-    }
-}
 
 // The counts of the job, or why it is refused.
 pub fn hosirekar_heightmap_plan(

@@ -6,22 +6,21 @@ use mathlib.Core.List.{List, [], ◌∷◌, ◌++◌, map}
 use Prim.Native.Nat.{ℕ, zero, suc, ◌+◌, ◌-◌, ◌<◌, ◌≤◌}
 use native.Mathlib.Omega.{arith}
 use lib.Dec.{T, ltb, ltb→lt, nltb→le}
-use lib.Ieee.{Float}
 use lib.ListN.{length, get_or, length-append}
 use Rattle.face.specs.Lists.{chain}
 use Rattle.placement.specs.declared.options.Choice.{Choice}
 use Rattle.placement.specs.declared.options.Choice.TheVariants as option
-use Rattle.buffers.specs.Mesh.{Mesh, also, size_of, measure, start_of, summed}
+use Rattle.buffers.specs.Mesh.{also, measure, start_of, summed}
 use Rattle.buffers.proofs.Windows.{also-none}
 use Rattle.buffers.proofs.Named.{Stands, stands-name, stands-below, stands-first, stands-left, stands-right, stands-chain, chain-name, chain-start, start_right}
 use Rattle.heightmap.specs.declared.Name.{Name}
 use Rattle.heightmap.specs.declared.Name.TheVariants.{Cap, Side}
 use Rattle.heightmap.specs.declared.HeightMap.{HeightMap}
 use Rattle.heightmap.specs.Grid.{Grid, cells_in, wall, present}
-use Rattle.heightmap.specs.HeightMap.{Lists, lists, cap_names, side_names, cell_names, map_names, mesh_of}
+use Rattle.heightmap.specs.HeightMap.{Lists, cap_names, side_names, cell_names, map_names, mesh_of}
 use Rattle.heightmap.specs.Counts.{cap_counts, side_counts, cell_start}
 use Rattle.heightmap.specs.Names.{name_at, start_by, faces_before, number_of, Has}
-use Rattle.heightmap.proofs.Counts.{size-of, cap-sum, sides-sum, cells-sum}
+use Rattle.heightmap.proofs.Counts.{cap-sum, sides-sum, cells-sum}
 use Rattle.heightmap.proofs.Walls.{there-why}
 
 module _ (job : HeightMap) (g : Grid) where

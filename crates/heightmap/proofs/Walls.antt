@@ -4,7 +4,6 @@
 use mathlib.Core.Path.{◌≡◌, refl, ap, ◌∙◌}
 use mathlib.Core.Logic.{inl, inr}
 use mathlib.Core.Bool.{Bool, true, false, cond}
-use mathlib.Core.List.{List, []}
 use Prim.Native.Nat.{ℕ}
 use native.Mathlib.Omega.{arith}
 use borrow.Author.Tests.{eqb-true, eqb-false, eq-eqb, ne_eqb}
@@ -17,7 +16,7 @@ use Rattle.heightmap.specs.declared.Fringe.TheVariants as fringe
 use Rattle.heightmap.specs.declared.Wall.{Wall}
 use Rattle.heightmap.specs.declared.Wall.TheVariants.{SidesOff, NothingBeyond, AsHigh, Present}
 use Rattle.heightmap.specs.declared.HeightMap.{HeightMap}
-use Rattle.heightmap.specs.Grid.{Grid, grid, height_at, nobody, neighbour_at, fringe_at, against, edge_by, beside_by, wall_by, wall, present, On, BeyondEdge, Beyond, Lower}
+use Rattle.heightmap.specs.Grid.{Grid, height_at, nobody, neighbour_at, fringe_at, against, edge_by, beside_by, wall_by, wall, present, On, BeyondEdge, Beyond, Lower}
 
 -- ---- the four reasons
 abbrev pub WhyBy : Choice → Fringe → Grid → ℕ → ℕ → Wall → Type 0

@@ -26,7 +26,7 @@ use Rattle.heightmap.specs.declared.Name.{Name}
 use Rattle.heightmap.specs.declared.Name.TheVariants.{Cap, Side}
 use Rattle.heightmap.specs.declared.HeightMap.{HeightMap}
 use Rattle.heightmap.specs.declared.Lists.{Lists as LentLists}
-use Rattle.heightmap.specs.Grid.{Grid, grid, lent_grid, seen_grid, cells_in, height_at, position_at, left_at, right_at, span_of, wall, present, foot_of}
+use Rattle.heightmap.specs.Grid.{Grid, lent_grid, seen_grid, cells_in, height_at, position_at, left_at, right_at, span_of, wall, present, foot_of}
 
 -- what is lent beside a map: its cells, seven option numbers a cell (the cap's, then those of sides 0 to 5), the six
 -- corners of every cap, and the table of options

@@ -4,7 +4,7 @@ ghost use Rattle.std.specs.Prelude.{◌≡◌, ◌+◌, ◌*◌, ◌≤◌, get_
 ghost use Rattle.mesh.specs.Stored.{uv_from};
 ghost use Rattle.heightmap.specs.declared.HeightRange.TheVariants.{OfAll};
 ghost use Rattle.heightmap.specs.Grid.{seen_grid, cells_in, height_at, position_at, left_at, right_at, neighbour_at, fringe_at};
-ghost use Rattle.heightmap.specs.Grid.{lower, higher, span_by, against, edge_by, beside_by, wall_by, present, foot_of};
+ghost use Rattle.heightmap.specs.Grid.{lower, higher, span_by, against, edge_by, beside_by, wall_by};
 
 use face::vec::Vec2;
 use placement::options::Choice;
@@ -28,7 +28,7 @@ pub fn element_or<T: Copy>(list: &[T], at: usize, none: T) -> T
 }
 
 // The same of a list that has so many elements a cell, by the place in the cell.
-pub fn of_cell_or<T: Copy>(list: &[T], each: usize, k: usize, i: usize, none: T) -> T
+pub(crate) fn of_cell_or<T: Copy>(list: &[T], each: usize, k: usize, i: usize, none: T) -> T
     ensures { result ≡ get_or list.now (each * k + i) none }
 {
     let Some(start) = each.checked_mul(k) else {
@@ -151,25 +151,6 @@ fn wall_against(beyond: f32, own: f32) -> crate::Wall
         return crate::Wall::Present(beyond);
     }
     crate::Wall::AsHigh(beyond)
-}
-
-impl crate::Wall {
-    pub fn is_present(self) -> bool
-        ensures { result ≡ present self }
-    {
-        matches!(self, crate::Wall::Present(_))
-    }
-
-    // The height that a wall stands on.
-    #[tactic(auto, using(crate::proofs::Reading::no_number))]
-    pub fn foot(self) -> f32
-        ensures { result ≡ foot_of self }
-    {
-        match self {
-            crate::Wall::SidesOff | crate::Wall::NothingBeyond => f32::NAN,
-            crate::Wall::AsHigh(beyond) | crate::Wall::Present(beyond) => beyond,
-        }
-    }
 }
 
 // The lower of two heights, the earlier where they are equal; `f32::min` leaves open which of -0 and +0 it is.

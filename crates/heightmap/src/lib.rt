@@ -6,6 +6,9 @@
 pub mod grid;
 pub mod options;
 
+ghost use Rattle.std.specs.Prelude.{◌≡◌};
+ghost use Rattle.heightmap.specs.Grid.{present, foot_of};
+
 use face::vec::Vec2;
 use placement::options::Choice;
 use placement::placement::Placement;
@@ -51,6 +54,25 @@ pub enum Wall {
     NothingBeyond,
     AsHigh(f32),
     Present(f32),
+}
+
+impl Wall {
+    pub fn is_present(self) -> bool
+        ensures { result ≡ present self }
+    {
+        matches!(self, Wall::Present(_))
+    }
+
+    // The height that a wall stands on.
+    #[tactic(auto, using(crate::proofs::Reading::no_number))]
+    pub fn foot(self) -> f32
+        ensures { result ≡ foot_of self }
+    {
+        match self {
+            Wall::SidesOff | Wall::NothingBeyond => f32::NAN,
+            Wall::AsHigh(beyond) | Wall::Present(beyond) => beyond,
+        }
+    }
 }
 
 // A face of a map: the cap of a cell, or one of its sides, by the numbers of both.
