@@ -166,7 +166,8 @@ fn higher_of(a: f32, b: f32) -> f32
     if a < b { b } else { a }
 }
 
-// The least and the greatest height, 0 where there are no cells.
+// The least and the greatest height, 0 where there are no cells. The first height starts both ends, so that a fold over
+// `chunks_exact` is no plainer than the index.
 fn span_of_all(cells: &[f32]) -> crate::Span
     ensures { result ≡ span_by OfAll cells.now }
 {

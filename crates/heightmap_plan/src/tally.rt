@@ -36,6 +36,7 @@ pub struct Walk<T> {
     pub before: T,
 }
 
+// The same in each crate that counts: as no public function has a `requires`, it is not handed from one to the other.
 pub(crate) fn add(a: Counts, b: Counts) -> Counts
     requires { (a.vertices.0 + b.vertices.0 < 2 ^ 64) × (a.indices.0 + b.indices.0 < 2 ^ 64) }
     ensures { result ≡ also a b }
@@ -217,7 +218,8 @@ pub(crate) fn caps_in(caps: Choice, k: usize) -> usize
     }
 }
 
-// The walls alone are counted, and no option is looked up.
+// The walls alone are counted, and no option is looked up. One walk over closures for this and `walk_faces` is no plainer:
+// each has bounds of its own for its sums.
 pub(crate) fn walk_walls(job: HeightMap, grid: Grid<'_>, goal: Goal, n: usize) -> Walk<usize>
     requires { n ≤ 65536 }
     ensures { result ≡ walked_walls job.caps job.sides job.fringe (seen_grid grid.entry) goal n }

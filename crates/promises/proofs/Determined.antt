@@ -13,13 +13,14 @@ use types.Logic.{Logic}
 use contract.Lifetimes.{Lfts}
 use contract.Monad.{Fun}
 use denote.Param.{number}
-use denote.Param.Laws.{Laws}
+use denote.Param.Laws.{Laws, IsCopy}
 use denote.RattleType.{RattleType}
 use denote.Triple.Entry.{Args}
 use denote.Triple.Clauses.{Lasts}
 use denote.MutBor.{MutBor}
 use mir.Syntax.{Dict, w64}
 use mir.Val.{Fits}
+use Rattle.std.specs.declared.clone.Clone.{Ghosts as Clone}
 use Rattle.face.specs.declared.triangle.Shape.{Ghosts as Shape}
 use Rattle.boundary.specs.ToC.{answer_to_c}
 use Rattle.cells.specs.declared.Cell.{Cell}
@@ -521,8 +522,9 @@ pub column-builder-face : Fixes column_builder.specs.contracts.face.ended column
 column-builder-face κs a x y v w p q = let e = determined p.1 q.1 in (determined p.0 q.0, λ i. (tt, (tt, (tt, (tt, (tt, (tt, ((e i).vertices, ((e i).normals, ((e i).uvs, ((e i).indices, tt)))))))))))
 
 -- ---- heightmap
-pub heightmap-grid-element-or : (T : RattleType) (l : Laws T) → Fixes (heightmap.specs.contracts.grid.element_or.ended T) (heightmap.proofs.grid.element_or.Reads.Learnt T l)
-heightmap-grid-element-or T l κs a x y v w p q = (determined p q, refl)
+pub heightmap-grid-element-or : (T : RattleType) (l : Laws T) (c : IsCopy T) (s : Clone T.Denot) (d : Dict)
+    → Fixes (heightmap.specs.contracts.grid.element_or.ended T s d) (heightmap.proofs.grid.element_or.Reads.Learnt T l c s d)
+heightmap-grid-element-or T l c s d κs a x y v w p q = (determined p q, refl)
 
 pub heightmap-grid-cell-count : Fixes heightmap.specs.contracts.grid.Grid.cell_count.ended heightmap.proofs.grid.Grid.cell_count.Reads.Learnt
 heightmap-grid-cell-count κs a x y v w p q = (determined p q, refl)
