@@ -6,6 +6,7 @@
 pub mod cheap;
 pub mod columns;
 pub mod files;
+mod lists;
 pub mod loading;
 pub mod maps;
 pub mod merging;

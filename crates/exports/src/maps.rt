@@ -7,6 +7,7 @@ ghost use Rattle.heightmap.specs.HeightMap.{lent};
 ghost use Rattle.boundary.specs.Maps.{map_planned, map_whole, map_face, map_built, map_faced, map_faces_told, map_window_told, map_why_told, map_which_told};
 ghost use Rattle.boundary.specs.ToC.{answer_to_c, faces_to_c, window_to_c, why_to_c, which_to_c};
 
+use crate::lists::lists_of;
 use boundary::jobs::CHeightMap;
 use boundary::to_c::{CAnswer, CFaces, CWhich, CWhy, CWindow};
 use heightmap::HeightMap;
@@ -24,11 +25,8 @@ pub fn hosirekar_heightmap_plan(
 ) -> CAnswer
     ensures { result ≡ answer_to_c (map_planned job (lent cells neighbours fringe customs corners numbers marks)) }
 {
-    CAnswer::from(HeightMap::try_from(job).and_then(|job| {
-        heightmap_builder::plan(
-            job, cells, neighbours, fringe, customs, corners, numbers, marks,
-        )
-    }))
+    let lists = lists_of(cells, neighbours, fringe, customs, corners, numbers, marks);
+    CAnswer::from(HeightMap::try_from(job).and_then(|job| heightmap_builder::plan(job, lists)))
 }
 
 // How many faces the job has, or why it is refused.
@@ -44,11 +42,8 @@ pub fn hosirekar_heightmap_faces(
 ) -> CFaces
     ensures { result ≡ faces_to_c (map_faces_told job (lent cells neighbours fringe customs corners numbers marks)) }
 {
-    CFaces::from(HeightMap::try_from(job).and_then(|job| {
-        heightmap_plan::window::faces(
-            job, cells, neighbours, fringe, customs, corners, numbers, marks,
-        )
-    }))
+    let lists = lists_of(cells, neighbours, fringe, customs, corners, numbers, marks);
+    CFaces::from(HeightMap::try_from(job).and_then(|job| heightmap_plan::window::faces(job, lists)))
 }
 
 // The places of one face of the job, by its number, or why there are none.
@@ -65,11 +60,10 @@ pub fn hosirekar_heightmap_window(
 ) -> CWindow
     ensures { result ≡ window_to_c (map_window_told job (lent cells neighbours fringe customs corners numbers marks) number) }
 {
-    CWindow::from(HeightMap::try_from(job).and_then(|job| {
-        heightmap_plan::window::window(
-            job, cells, neighbours, fringe, customs, corners, numbers, marks, number,
-        )
-    }))
+    let lists = lists_of(cells, neighbours, fringe, customs, corners, numbers, marks);
+    CWindow::from(HeightMap::try_from(job).and_then(|job| heightmap_plan::window::window(
+        job, lists, number,
+    )))
 }
 
 // Why a side of a cell is there or is not: 1 sides are off, 2 no neighbour and no fringe height, 3 the neighbour or the
@@ -88,11 +82,8 @@ pub fn hosirekar_heightmap_why(
 ) -> CWhy
     ensures { result ≡ why_to_c (map_why_told job (lent cells neighbours fringe customs corners numbers marks) cell side) }
 {
-    CWhy::from(HeightMap::try_from(job).and_then(|job| {
-        heightmap_why::why(
-            job, cells, neighbours, fringe, customs, corners, numbers, marks, cell, side,
-        )
-    }))
+    let lists = lists_of(cells, neighbours, fringe, customs, corners, numbers, marks);
+    CWhy::from(HeightMap::try_from(job).and_then(|job| heightmap_why::why(job, lists, cell, side)))
 }
 
 // Which face a number is: 1 the cap of a cell, 2 a side of a cell.
@@ -109,11 +100,8 @@ pub fn hosirekar_heightmap_which(
 ) -> CWhich
     ensures { result ≡ which_to_c (map_which_told job (lent cells neighbours fringe customs corners numbers marks) number) }
 {
-    CWhich::from(HeightMap::try_from(job).and_then(|job| {
-        heightmap_why::which(
-            job, cells, neighbours, fringe, customs, corners, numbers, marks, number,
-        )
-    }))
+    let lists = lists_of(cells, neighbours, fringe, customs, corners, numbers, marks);
+    CWhich::from(HeightMap::try_from(job).and_then(|job| heightmap_why::which(job, lists, number)))
 }
 
 // The whole job, written to four buffers, or nothing.
@@ -134,10 +122,10 @@ pub fn hosirekar_heightmap_build(
     ensures answer { result ≡ answer_to_c (map_whole job (lent cells neighbours fringe customs corners numbers marks) (entering vertices normals uvs indices)) }
     ensures buffers { Become (map_built job (lent cells neighbours fringe customs corners numbers marks)) vertices normals uvs indices }
 {
+    let lists = lists_of(cells, neighbours, fringe, customs, corners, numbers, marks);
     match HeightMap::try_from(job) {
         Ok(job) => CAnswer::from(heightmap_builder::build(
-            job, cells, neighbours, fringe, customs, corners, numbers, marks, vertices, normals,
-            uvs, indices,
+            job, lists, vertices, normals, uvs, indices,
         )),
         Err(why) => CAnswer::from(Err(why)),
     }
@@ -162,10 +150,10 @@ pub fn hosirekar_heightmap_face(
     ensures answer { result ≡ answer_to_c (map_face job (lent cells neighbours fringe customs corners numbers marks) number (entering vertices normals uvs indices)) }
     ensures buffers { Become (map_faced job (lent cells neighbours fringe customs corners numbers marks) number) vertices normals uvs indices }
 {
+    let lists = lists_of(cells, neighbours, fringe, customs, corners, numbers, marks);
     match HeightMap::try_from(job) {
         Ok(job) => CAnswer::from(heightmap_builder::face(
-            job, cells, neighbours, fringe, customs, corners, numbers, marks, number, vertices,
-            normals, uvs, indices,
+            job, lists, number, vertices, normals, uvs, indices,
         )),
         Err(why) => CAnswer::from(Err(why)),
     }

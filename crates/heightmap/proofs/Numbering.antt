@@ -6,22 +6,21 @@ use mathlib.Core.List.{List, [], ◌∷◌, ◌++◌, map}
 use Prim.Native.Nat.{ℕ, zero, suc, ◌+◌, ◌-◌, ◌<◌, ◌≤◌}
 use native.Mathlib.Omega.{arith}
 use lib.Dec.{T, ltb, ltb→lt, nltb→le}
-use lib.Ieee.{Float}
 use lib.ListN.{length, get_or, length-append}
 use Rattle.face.specs.Lists.{chain}
 use Rattle.placement.specs.declared.options.Choice.{Choice}
 use Rattle.placement.specs.declared.options.Choice.TheVariants as option
-use Rattle.buffers.specs.Mesh.{Mesh, also, size_of, measure, start_of, summed}
+use Rattle.buffers.specs.Mesh.{also, measure, start_of, summed}
 use Rattle.buffers.proofs.Windows.{also-none}
 use Rattle.buffers.proofs.Named.{Stands, stands-name, stands-below, stands-first, stands-left, stands-right, stands-chain, chain-name, chain-start, start_right}
 use Rattle.heightmap.specs.declared.Name.{Name}
 use Rattle.heightmap.specs.declared.Name.TheVariants.{Cap, Side}
 use Rattle.heightmap.specs.declared.HeightMap.{HeightMap}
 use Rattle.heightmap.specs.Grid.{Grid, cells_in, wall, present}
-use Rattle.heightmap.specs.HeightMap.{Lists, lists, cap_names, side_names, cell_names, map_names, mesh_of}
+use Rattle.heightmap.specs.HeightMap.{Lists, cap_names, side_names, cell_names, map_names, mesh_of}
 use Rattle.heightmap.specs.Counts.{cap_counts, side_counts, cell_start}
 use Rattle.heightmap.specs.Names.{name_at, start_by, faces_before, number_of, Has}
-use Rattle.heightmap.proofs.Counts.{size-of, cap-sum, sides-sum, cells-sum}
+use Rattle.heightmap.proofs.Counts.{cap-sum, sides-sum, cells-sum}
 use Rattle.heightmap.proofs.Walls.{there-why}
 
 module _ (job : HeightMap) (g : Grid) where
@@ -174,17 +173,3 @@ module _ (job : HeightMap) (ls : Lists) where
       (start_right f c (chain s 6) (length (chain s d) + 0)
       ∙ ap₂ also (cap-sum job ls k)
       (chain-start f s 6 d 0 l (stands-below (s d) 0 (Side k d) there) ∙ also-none (measure (map f (chain s d))) ∙ sides-sum job ls k d))
-
-starts-alike : (f h : Name → Mesh) → ((n : Name) → size_of (f n) ≡ size_of (h n)) → (ns : List Name) (i : ℕ) → start_of (map f ns) i ≡ start_of (map h ns) i
-starts-alike f h e [] zero = refl
-starts-alike f h e [] (suc i) = refl
-starts-alike f h e (n ∷ ns) zero = refl
-starts-alike f h e (n ∷ ns) (suc i) = ap₂ also (e n) (starts-alike f h e ns i)
-
--- it is the same whatever the corners are
-pub start-alike : (job : HeightMap) (g : Grid) (us : List ℕ) (cs ds ns : List Float) (ms : List ℕ) (i : ℕ) → start_by job (lists g us cs ns ms) i ≡ start_by job (lists g us ds ns ms) i
-start-alike job g us cs ds ns ms i = starts-alike (mesh_of job (lists g us cs ns ms)) (mesh_of job (lists g us ds ns ms)) same (map_names job g) i
-  where
-    same : (n : Name) → size_of (mesh_of job (lists g us cs ns ms) n) ≡ size_of (mesh_of job (lists g us ds ns ms) n)
-    same (Cap k) = size-of job (lists g us cs ns ms) (Cap k) ∙ sym (size-of job (lists g us ds ns ms) (Cap k))
-    same (Side k d) = size-of job (lists g us cs ns ms) (Side k d) ∙ sym (size-of job (lists g us ds ns ms) (Side k d))

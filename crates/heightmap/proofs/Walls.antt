@@ -4,7 +4,6 @@
 use mathlib.Core.Path.{◌≡◌, refl, ap, ◌∙◌}
 use mathlib.Core.Logic.{inl, inr}
 use mathlib.Core.Bool.{Bool, true, false, cond}
-use mathlib.Core.List.{List, []}
 use Prim.Native.Nat.{ℕ}
 use native.Mathlib.Omega.{arith}
 use borrow.Author.Tests.{eqb-true, eqb-false, eq-eqb, ne_eqb}
@@ -17,12 +16,7 @@ use Rattle.heightmap.specs.declared.Fringe.TheVariants as fringe
 use Rattle.heightmap.specs.declared.Wall.{Wall}
 use Rattle.heightmap.specs.declared.Wall.TheVariants.{SidesOff, NothingBeyond, AsHigh, Present}
 use Rattle.heightmap.specs.declared.HeightMap.{HeightMap}
-use Rattle.heightmap.specs.Grid.{Grid, grid, height_at, nobody, neighbour_at, fringe_at, against, edge_by, beside_by, wall_by, wall, present, On, BeyondEdge, Beyond, Lower}
-
--- where the neighbour is none, the list of neighbours says no more
-pub edge-alone : (f : Fringe) (cs : List Float) (ns : List ℕ) (fs : List Float) (k d : ℕ) → edge_by f (grid cs [] fs) k d ≡ edge_by f (grid cs ns fs) k d
-edge-alone fringe.Bare cs ns fs k d = refl
-edge-alone fringe.Listed cs ns fs k d = refl
+use Rattle.heightmap.specs.Grid.{Grid, height_at, nobody, neighbour_at, fringe_at, against, edge_by, beside_by, wall_by, wall, present, On, BeyondEdge, Beyond, Lower}
 
 -- ---- the four reasons
 abbrev pub WhyBy : Choice → Fringe → Grid → ℕ → ℕ → Wall → Type 0

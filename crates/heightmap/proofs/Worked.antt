@@ -16,7 +16,7 @@ use Rattle.placement.specs.declared.placement.Choice3.TheVariants as choice
 use Rattle.placement.specs.declared.placement.Turn.TheVariants as turn
 use Rattle.placement.specs.declared.placement.Placement.{Placement}
 use Rattle.placement.specs.Placing.{stood}
-use Rattle.buffers.specs.Mesh.{Mesh, none, joined}
+use Rattle.buffers.specs.Mesh.{Mesh, joined}
 use Rattle.buffers.specs.Laying.{three, two, spread}
 use Rattle.buffers.specs.Faces as Faces
 use Rattle.heightmap.specs.declared.Fringe.{Fringe}

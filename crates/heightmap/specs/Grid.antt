@@ -17,6 +17,7 @@ use Rattle.heightmap.specs.declared.Span.{Span}
 use Rattle.heightmap.specs.declared.Wall.{Wall}
 use Rattle.heightmap.specs.declared.Wall.TheVariants.{SidesOff, NothingBeyond, AsHigh, Present}
 use Rattle.heightmap.specs.declared.HeightMap.{HeightMap}
+use Rattle.heightmap.specs.declared.grid.Grid.{Grid as LentGrid}
 
 -- B11, B12: what the layout's owner lends: 27 numbers a cell (height, position, of each side the left end and the right),
 -- six neighbours a cell, and six heights a cell beyond the edge
@@ -31,6 +32,10 @@ grid cs ns fs = record { cells = cs; neighbours = ns; fringe = fs }
 -- what those lists hold when a call is entered
 abbrev pub lent_grid : Shown Float → Shown ℕ → Shown Float → Grid
 lent_grid c n f = grid c.entry.now n.entry.now f.entry.now
+
+-- the same of a grid that is lent as one
+abbrev pub seen_grid : LentGrid → Grid
+seen_grid g = grid g.cells.now g.neighbours.now g.fringe.now
 
 -- ---- how the cells are read: NaN past the end of the list
 abbrev pub cells_in : List Float → ℕ

@@ -25,7 +25,8 @@ use Rattle.heightmap.specs.declared.Origin.TheVariants as origin
 use Rattle.heightmap.specs.declared.Name.{Name}
 use Rattle.heightmap.specs.declared.Name.TheVariants.{Cap, Side}
 use Rattle.heightmap.specs.declared.HeightMap.{HeightMap}
-use Rattle.heightmap.specs.Grid.{Grid, grid, lent_grid, cells_in, height_at, position_at, left_at, right_at, span_of, wall, present, foot_of}
+use Rattle.heightmap.specs.declared.Lists.{Lists as LentLists}
+use Rattle.heightmap.specs.Grid.{Grid, lent_grid, seen_grid, cells_in, height_at, position_at, left_at, right_at, span_of, wall, present, foot_of}
 
 -- what is lent beside a map: its cells, seven option numbers a cell (the cap's, then those of sides 0 to 5), the six
 -- corners of every cap, and the table of options
@@ -43,13 +44,9 @@ lists g us cs ns ms = record { grid = g; customs = us; corners = cs; numbers = n
 abbrev pub lent : Shown Float → Shown ℕ → Shown Float → Shown ℕ → Shown Float → Shown Float → Shown ℕ → Lists
 lent c n f u p k m = lists (lent_grid c n f) u.entry.now p.entry.now k.entry.now m.entry.now
 
--- the same for counts, which have no use for the corners
-abbrev pub lent_for_counts : Shown Float → Shown ℕ → Shown Float → Shown ℕ → Shown Float → Shown ℕ → Lists
-lent_for_counts c n f u k m = lists (lent_grid c n f) u.entry.now [] k.entry.now m.entry.now
-
--- and for options, which have none for the cells
-abbrev pub lent_for_options : Shown ℕ → Shown Float → Shown ℕ → Lists
-lent_for_options u k m = lists (grid [] [] []) u.entry.now [] k.entry.now m.entry.now
+-- the same of lists that are lent as one
+abbrev pub seen : LentLists → Lists
+seen l = lists (seen_grid l.grid) l.customs.now l.corners.now l.numbers.now l.marks.now
 
 -- ---- B10: which faces, by name: cells in the order supplied, of each the cap, then sides 0 to 5
 abbrev pub cap_names : Choice → ℕ → List Name

@@ -1,93 +1,147 @@
-// The cells as they are lent, the range of their heights, and why a side is there or is not. Every reader tests how many
-// cells a list has before it multiplies, so any cell and any side may be asked for; a side above 5 reads on.
-ghost use Rattle.std.specs.Prelude.{◌≡◌, [], ◌+◌, ◌*◌, ◌≤◌, ◌<◌, get_or};
-ghost use Rattle.std.specs.Float.{nan};
+// The cells as they are lent, the range of their heights, and why a side is there or is not. Any cell and any side may be
+// asked for: past the end of a list stands what means none, and a side above 5 reads on.
+ghost use Rattle.std.specs.Prelude.{◌≡◌, ◌+◌, ◌*◌, ◌≤◌, get_or};
 ghost use Rattle.mesh.specs.Stored.{uv_from};
 ghost use Rattle.heightmap.specs.declared.HeightRange.TheVariants.{OfAll};
-ghost use Rattle.heightmap.specs.Grid.{grid, lent_grid, cells_in, height_at, position_at, left_at, right_at, neighbour_at, fringe_at};
-ghost use Rattle.heightmap.specs.Grid.{lower, higher, span_by, against, edge_by, beside_by, wall_by, present, foot_of};
+ghost use Rattle.heightmap.specs.Grid.{seen_grid, cells_in, height_at, position_at, left_at, right_at, neighbour_at, fringe_at};
+ghost use Rattle.heightmap.specs.Grid.{lower, higher, span_by, against, edge_by, beside_by, wall_by};
 
 use face::vec::Vec2;
 use placement::options::Choice;
 
-// How many cells a list has.
-pub fn cells_in(cells: &[f32]) -> usize
-    ensures { result ≡ cells_in cells.now }
-{
-    cells.len() / 27
+// What the layout's owner lends: 27 numbers a cell, and for each of its sides a neighbour and a height beyond the edge.
+#[derive(Clone, Copy)]
+pub struct Grid<'a> {
+    pub cells: &'a [f32],
+    pub neighbours: &'a [u32],
+    pub fringe: &'a [f32],
 }
 
-// A number of a list that has so many a cell, by its place in the cell, and NaN past the list's end.
-fn number_at(list: &[f32], each: usize, k: usize, i: usize) -> f32
-    requires { (0 < each) × (i ≤ 2000) }
-    ensures { result ≡ get_or list.now (each * k + i) nan }
+// An element of a list, and what stands for none past its end.
+pub fn element_or<T: Copy>(list: &[T], at: usize, none: T) -> T
+    ensures { result ≡ get_or list.now at none }
 {
-    if list.len() / each < k {
-        return 0.0 / 0.0;
-    }
-    let at = each * k + i;
-    if at < list.len() {
-        return list[at];
-    }
-    0.0 / 0.0
-}
-
-// Two numbers of a cell that follow each other, as x and z.
-fn pair_at(cells: &[f32], k: usize, i: usize) -> Vec2
-    requires { i ≤ 1999 }
-    ensures { result ≡ uv_from cells.now (27 * k + i) }
-{
-    Vec2 {
-        x: number_at(cells, 27, k, i),
-        y: number_at(cells, 27, k, i + 1),
+    match list.get(at) {
+        Some(x) => *x,
+        None => none,
     }
 }
 
-pub fn height_at(cells: &[f32], k: usize) -> f32
-    ensures { result ≡ height_at cells.now k }
+// The same of a list that has so many elements a cell, by the place in the cell.
+pub(crate) fn of_cell_or<T: Copy>(list: &[T], each: usize, k: usize, i: usize, none: T) -> T
+    ensures { result ≡ get_or list.now (each * k + i) none }
 {
-    number_at(cells, 27, k, 0)
+    let Some(start) = each.checked_mul(k) else {
+        return none;
+    };
+    let Some(at) = start.checked_add(i) else {
+        return none;
+    };
+    element_or(list, at, none)
 }
 
-pub fn position_at(cells: &[f32], k: usize) -> Vec2
-    ensures { result ≡ position_at cells.now k }
-{
-    pair_at(cells, k, 1)
-}
-
-// The left end of a side.
-pub fn left_at(cells: &[f32], k: usize, d: u8) -> Vec2
-    ensures { result ≡ left_at cells.now k d }
-{
-    pair_at(cells, k, 3 + 4 * (d as usize))
-}
-
-pub fn right_at(cells: &[f32], k: usize, d: u8) -> Vec2
-    ensures { result ≡ right_at cells.now k d }
-{
-    pair_at(cells, k, 3 + 4 * (d as usize) + 2)
-}
-
-// The cell beside a side, or the number for none.
-pub fn neighbour_at(neighbours: &[u32], k: usize, d: u8) -> u32
-    ensures { result ≡ neighbour_at neighbours.now k d }
-{
-    if neighbours.len() / 6 < k {
-        return 4294967295;
+impl<'a> Grid<'a> {
+    pub fn cell_count(self) -> usize
+        ensures { result ≡ cells_in (seen_grid self.entry).cells }
+    {
+        self.cells.len() / 27
     }
-    let i = 6 * k + (d as usize);
-    if i < neighbours.len() {
-        return neighbours[i];
+
+    // Two numbers of a cell that follow each other, as x and z.
+    #[tactic(auto, using(crate::proofs::Reading::no_number))]
+    fn pair_at(self, k: usize, i: usize) -> Vec2
+        requires { i ≤ 1999 }
+        ensures { result ≡ uv_from (seen_grid self.entry).cells (27 * k + i) }
+    {
+        Vec2 {
+            x: of_cell_or(self.cells, 27, k, i, f32::NAN),
+            y: of_cell_or(self.cells, 27, k, i + 1, f32::NAN),
+        }
     }
-    4294967295
+
+    #[tactic(auto, using(crate::proofs::Reading::no_number))]
+    pub fn height_at(self, k: usize) -> f32
+        ensures { result ≡ height_at (seen_grid self.entry).cells k }
+    {
+        of_cell_or(self.cells, 27, k, 0, f32::NAN)
+    }
+
+    pub fn position_at(self, k: usize) -> Vec2
+        ensures { result ≡ position_at (seen_grid self.entry).cells k }
+    {
+        self.pair_at(k, 1)
+    }
+
+    // The left end of a side.
+    pub fn left_at(self, k: usize, d: u8) -> Vec2
+        ensures { result ≡ left_at (seen_grid self.entry).cells k d }
+    {
+        self.pair_at(k, 3 + 4 * (d as usize))
+    }
+
+    pub fn right_at(self, k: usize, d: u8) -> Vec2
+        ensures { result ≡ right_at (seen_grid self.entry).cells k d }
+    {
+        self.pair_at(k, 3 + 4 * (d as usize) + 2)
+    }
+
+    // The cell beside a side, or the number for none.
+    pub fn neighbour_at(self, k: usize, d: u8) -> u32
+        ensures { result ≡ neighbour_at (seen_grid self.entry).neighbours k d }
+    {
+        of_cell_or(self.neighbours, 6, k, d as usize, NOBODY)
+    }
+
+    // The height beyond a side at the edge.
+    #[tactic(auto, using(crate::proofs::Reading::no_number))]
+    pub fn fringe_at(self, k: usize, d: u8) -> f32
+        ensures { result ≡ fringe_at (seen_grid self.entry).fringe k d }
+    {
+        of_cell_or(self.fringe, 6, k, d as usize, f32::NAN)
+    }
+
+    fn wall_at_edge(self, how: crate::Fringe, k: usize, d: u8) -> crate::Wall
+        ensures { result ≡ edge_by how (seen_grid self.entry) k d }
+    {
+        match how {
+            crate::Fringe::Bare => crate::Wall::NothingBeyond,
+            crate::Fringe::Listed => wall_against(self.fringe_at(k, d), self.height_at(k)),
+        }
+    }
+
+    fn wall_beside(self, how: crate::Fringe, k: usize, d: u8) -> crate::Wall
+        ensures { result ≡ beside_by how (seen_grid self.entry) k d }
+    {
+        let n = self.neighbour_at(k, d);
+        if n == NOBODY {
+            return self.wall_at_edge(how, k, d);
+        }
+        wall_against(self.height_at(n as usize), self.height_at(k))
+    }
+
+    // Why a side of a cell is there or is not, by the job's choice of sides and its fringe.
+    pub fn wall_at(self, sides: Choice, how: crate::Fringe, k: usize, d: u8) -> crate::Wall
+        ensures { result ≡ wall_by sides how (seen_grid self.entry) k d }
+    {
+        match sides {
+            Choice::Absent => crate::Wall::SidesOff,
+            Choice::With(_) => self.wall_beside(how, k, d),
+        }
+    }
+
+    // The range by which a side's v goes.
+    pub fn span_of(self, range: crate::HeightRange) -> crate::Span
+        ensures { result ≡ span_by range (seen_grid self.entry).cells }
+    {
+        match range {
+            crate::HeightRange::OfAll => span_of_all(self.cells),
+            crate::HeightRange::Of(min, max) => crate::Span { min, max },
+        }
+    }
 }
 
-// The height beyond a side at the edge.
-pub fn fringe_at(fringe: &[f32], k: usize, d: u8) -> f32
-    ensures { result ≡ fringe_at fringe.now k d }
-{
-    number_at(fringe, 6, k, d as usize)
-}
+// The number that stands for no neighbour.
+pub const NOBODY: u32 = 4294967295;
 
 // A cell of height own beside what lies beyond.
 fn wall_against(beyond: f32, own: f32) -> crate::Wall
@@ -99,93 +153,21 @@ fn wall_against(beyond: f32, own: f32) -> crate::Wall
     crate::Wall::AsHigh(beyond)
 }
 
-fn wall_at_edge(how: crate::Fringe, cells: &[f32], fringe: &[f32], k: usize, d: u8) -> crate::Wall
-    ensures { result ≡ edge_by how (grid cells.now [] fringe.now) k d }
-{
-    match how {
-        crate::Fringe::Bare => crate::Wall::NothingBeyond,
-        crate::Fringe::Listed => wall_against(fringe_at(fringe, k, d), height_at(cells, k)),
-    }
-}
-
-fn wall_beside(
-    how: crate::Fringe,
-    cells: &[f32],
-    neighbours: &[u32],
-    fringe: &[f32],
-    k: usize,
-    d: u8,
-) -> crate::Wall
-    ensures { result ≡ beside_by how (lent_grid cells neighbours fringe) k d }
-{
-    let n = neighbour_at(neighbours, k, d);
-    if n == 4294967295 {
-        return wall_at_edge(how, cells, fringe, k, d);
-    }
-    wall_against(height_at(cells, n as usize), height_at(cells, k))
-}
-
-// Why a side of a cell is there or is not, by the job's choice of sides and its fringe.
-pub fn wall_at(
-    sides: Choice,
-    how: crate::Fringe,
-    cells: &[f32],
-    neighbours: &[u32],
-    fringe: &[f32],
-    k: usize,
-    d: u8,
-) -> crate::Wall
-    ensures { result ≡ wall_by sides how (lent_grid cells neighbours fringe) k d }
-{
-    match sides {
-        Choice::Absent => crate::Wall::SidesOff,
-        Choice::With(_) => wall_beside(how, cells, neighbours, fringe, k, d),
-    }
-}
-
-pub fn is_present(w: crate::Wall) -> bool
-    ensures { result ≡ present w }
-{
-    match w {
-        crate::Wall::SidesOff => false,
-        crate::Wall::NothingBeyond => false,
-        crate::Wall::AsHigh(_) => false,
-        crate::Wall::Present(_) => true,
-    }
-}
-
-// The height that a wall stands on.
-pub fn foot_of(w: crate::Wall) -> f32
-    ensures { result ≡ foot_of w }
-{
-    match w {
-        crate::Wall::SidesOff => 0.0 / 0.0,
-        crate::Wall::NothingBeyond => 0.0 / 0.0,
-        crate::Wall::AsHigh(beyond) => beyond,
-        crate::Wall::Present(beyond) => beyond,
-    }
-}
-
-// The lower of two heights, the earlier where they are equal.
+// The lower of two heights, the earlier where they are equal; `f32::min` leaves open which of -0 and +0 it is.
 fn lower_of(a: f32, b: f32) -> f32
     ensures { result ≡ lower a b }
 {
-    if b < a {
-        return b;
-    }
-    a
+    if b < a { b } else { a }
 }
 
 fn higher_of(a: f32, b: f32) -> f32
     ensures { result ≡ higher a b }
 {
-    if a < b {
-        return b;
-    }
-    a
+    if a < b { b } else { a }
 }
 
-// The least and the greatest height, 0 where there are no cells.
+// The least and the greatest height, 0 where there are no cells. The first height starts both ends, so that a fold over
+// `chunks_exact` is no plainer than the index.
 fn span_of_all(cells: &[f32]) -> crate::Span
     ensures { result ≡ span_by OfAll cells.now }
 {
@@ -200,15 +182,5 @@ fn span_of_all(cells: &[f32]) -> crate::Span
         min = lower_of(min, h);
         max = higher_of(max, h);
     }
-    crate::Span { min: min, max: max }
-}
-
-// The range by which a side's v goes.
-pub fn span_of(range: crate::HeightRange, cells: &[f32]) -> crate::Span
-    ensures { result ≡ span_by range cells.now }
-{
-    match range {
-        crate::HeightRange::OfAll => span_of_all(cells),
-        crate::HeightRange::Of(a, b) => crate::Span { min: a, max: b },
-    }
+    crate::Span { min, max }
 }

@@ -1,9 +1,13 @@
 // What a height map is, after heightmap_builder.rs of hexx: its job and its faces' names; in grid.rt its cells and their
-// walls, in options.rt the option of a face and where it stands. All by value.
+// walls, in options.rt the option of a face and where it stands. A job is passed by value, and
+// so is the one struct of the lists that are lent beside it.
 #![tactic(auto)]
 
 pub mod grid;
 pub mod options;
+
+ghost use Rattle.std.specs.Prelude.{◌≡◌};
+ghost use Rattle.heightmap.specs.Grid.{present, foot_of};
 
 use face::vec::Vec2;
 use placement::options::Choice;
@@ -52,11 +56,40 @@ pub enum Wall {
     Present(f32),
 }
 
+impl Wall {
+    pub fn is_present(self) -> bool
+        ensures { result ≡ present self }
+    {
+        matches!(self, Wall::Present(_))
+    }
+
+    // The height that a wall stands on.
+    #[tactic(auto, using(crate::proofs::Reading::no_number))]
+    pub fn foot(self) -> f32
+        ensures { result ≡ foot_of self }
+    {
+        match self {
+            Wall::SidesOff | Wall::NothingBeyond => f32::NAN,
+            Wall::AsHigh(beyond) | Wall::Present(beyond) => beyond,
+        }
+    }
+}
+
 // A face of a map: the cap of a cell, or one of its sides, by the numbers of both.
 #[derive(Clone, Copy)]
 pub enum Name {
     Cap(usize),
     Side(usize, u8),
+}
+
+// What is lent beside a map: its grid, seven option numbers a cell, the six corners of every cap, and the table of options.
+#[derive(Clone, Copy)]
+pub struct Lists<'a> {
+    pub grid: grid::Grid<'a>,
+    pub customs: &'a [u8],
+    pub corners: &'a [f32],
+    pub numbers: &'a [f32],
+    pub marks: &'a [u8],
 }
 
 // An absent option drops all caps, or all sides.

@@ -1,27 +1,18 @@
 // The option of each face, and where the sides stand.
-ghost use Rattle.std.specs.Prelude.{◌≡◌, ◌+◌, ◌*◌, ◌≤◌};
-ghost use Rattle.heightmap.specs.HeightMap.{lent_for_options, custom_at, custom_place, own_choice, chosen, option_of, origin_of, side_stand};
+ghost use Rattle.std.specs.Prelude.{◌≡◌, ◌+◌, ◌*◌};
+ghost use Rattle.heightmap.specs.HeightMap.{seen, custom_at, custom_place, own_choice, chosen, option_of, origin_of, side_stand};
 
+use crate::grid::of_cell_or;
 use placement::options::{Choice, FaceOptions};
 use placement::placement::{Choice3, Stand};
 
 // The option that a list names for one of the seven faces of a cell: 255 means the job's own.
 fn custom_at(how: crate::Customs, customs: &[u8], k: usize, i: usize) -> u8
-    requires { i ≤ 256 }
     ensures { result ≡ custom_at how customs.now (7 * k + i) }
 {
     match how {
         crate::Customs::Absent => 255,
-        crate::Customs::Listed => {
-            if customs.len() / 7 < k {
-                return 255;
-            }
-            let at = 7 * k + i;
-            if at < customs.len() {
-                return customs[at];
-            }
-            255
-        }
+        crate::Customs::Listed => of_cell_or(customs, 7, k, i, 255),
     }
 }
 
@@ -38,25 +29,22 @@ fn choose(own: Choice, custom: u8) -> Choice
 pub fn choice_of(job: crate::HeightMap, name: crate::Name, customs: &[u8]) -> Choice
     ensures { result ≡ chosen (own_choice job name) (custom_at job.customs customs.now (custom_place name)) }
 {
-    let how = job.customs;
-    let caps = job.caps;
-    let sides = job.sides;
     match name {
-        crate::Name::Cap(k) => choose(caps, custom_at(how, customs, k, 0)),
-        crate::Name::Side(k, d) => choose(sides, custom_at(how, customs, k, 1 + (d as usize))),
+        crate::Name::Cap(k) => choose(job.caps, custom_at(job.customs, customs, k, 0)),
+        crate::Name::Side(k, d) => {
+            choose(
+                job.sides,
+                custom_at(job.customs, customs, k, 1 + (d as usize)),
+            )
+        }
     }
 }
 
-pub fn option_of(
-    job: crate::HeightMap,
-    name: crate::Name,
-    customs: &[u8],
-    numbers: &[f32],
-    marks: &[u8],
-) -> FaceOptions
-    ensures { result ≡ option_of job (lent_for_options customs numbers marks) name }
+pub fn option_of(job: crate::HeightMap, name: crate::Name, lists: crate::Lists<'_>) -> FaceOptions
+    ensures { result ≡ option_of job (seen lists.entry) name }
 {
-    placement::options::option_for(choice_of(job, name, customs), numbers, marks)
+    let choice = choice_of(job, name, lists.customs);
+    placement::options::option_for(choice, lists.numbers, lists.marks)
 }
 
 // The origin, at height +0, unless the map is centred.
@@ -73,7 +61,5 @@ pub fn origin_of(origin: crate::Origin) -> Choice3
 pub fn side_stand(job: crate::HeightMap) -> Stand
     ensures { result ≡ side_stand job }
 {
-    let s = job.placement;
-    let origin = job.origin;
-    placement::placement::stand_from(origin_of(origin), Choice3::Absent, false, s)
+    placement::placement::stand_from(origin_of(job.origin), Choice3::Absent, false, job.placement)
 }

@@ -1,17 +1,12 @@
 -- What is laid of a face by its cell and side. Definitions only.
-use Rattle.std.specs.Prelude.{ℕ, [], Float}
-use Rattle.buffers.specs.Lent.{Shown}
+use Rattle.std.specs.Prelude.{ℕ}
 use Rattle.heightmap.specs.declared.HeightMap.{HeightMap}
 use Rattle.heightmap.specs.declared.Name.TheVariants.{Cap, Side}
-use Rattle.heightmap.specs.Grid.{grid, height_at, left_at, right_at, span_of, wall, foot_of}
-use Rattle.heightmap.specs.HeightMap.{Lists, lists, option_of, side_stand, cap_stand}
+use Rattle.heightmap.specs.Grid.{height_at, left_at, right_at, span_of, wall, foot_of}
+use Rattle.heightmap.specs.HeightMap.{Lists, option_of, side_stand, cap_stand}
 use Rattle.heightmap_faces.specs.declared.named.CapFace.{CapFace}
 use Rattle.heightmap_faces.specs.declared.named.SideFace.{SideFace}
 use Rattle.heightmap_faces.specs.Speed.{skin_of, level_of, top_of}
-
--- the lists that a cap needs, when a call is entered
-abbrev pub lent_for_caps : Shown Float → Shown ℕ → Shown Float → Shown Float → Shown ℕ → Lists
-lent_for_caps c u p k m = lists (grid c.entry.now [] []) u.entry.now p.entry.now k.entry.now m.entry.now
 
 abbrev pub cap_of : HeightMap → Lists → ℕ → CapFace
 cap_of job ls k = record { top = top_of ls.corners (option_of job ls (Cap k)); stand = cap_stand job ls.grid k }

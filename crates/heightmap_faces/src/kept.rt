@@ -1,8 +1,9 @@
 // What was last made of an option, beside the option's number: it is made anew only where another number comes.
 ghost use Rattle.std.specs.Prelude.{◌≡◌, cond, eqb};
+ghost use Rattle.heightmap.specs.HeightMap.{seen};
 ghost use Rattle.heightmap_faces.specs.Kept.{number_in, level_by, top_by};
 
-use heightmap::Span;
+use heightmap::{Lists, Span};
 use placement::options::Choice;
 
 #[derive(Clone, Copy)]
@@ -27,42 +28,28 @@ pub fn number_of(c: Choice) -> u8
     }
 }
 
-pub fn level_by(number: u8, span: Span, top: f32, numbers: &[f32], marks: &[u8]) -> KeptLevel
-    ensures { result ≡ level_by span top numbers.now marks.now number }
+pub fn level_by(number: u8, span: Span, top: f32, lists: Lists<'_>) -> KeptLevel
+    ensures { result ≡ level_by span top (seen lists.entry).numbers (seen lists.entry).marks number }
 {
-    let skin = crate::skin_of(placement::options::option_at(numbers, marks, number), span);
-    let level = crate::level_of(skin, top);
-    KeptLevel {
-        number: number,
-        level: level,
-    }
+    let o = placement::options::option_at(lists.numbers, lists.marks, number);
+    let level = crate::level_of(crate::skin_of(o, span), top);
+    KeptLevel { number, level }
 }
 
-pub fn top_by(number: u8, corners: &[f32], numbers: &[f32], marks: &[u8]) -> KeptTop
-    ensures { result ≡ top_by corners.now numbers.now marks.now number }
+pub fn top_by(number: u8, lists: Lists<'_>) -> KeptTop
+    ensures { result ≡ top_by (seen lists.entry).corners (seen lists.entry).numbers (seen lists.entry).marks number }
 {
-    let top = crate::top_of(
-        corners,
-        placement::options::option_at(numbers, marks, number),
-    );
-    KeptTop {
-        number: number,
-        top: top,
-    }
+    let o = placement::options::option_at(lists.numbers, lists.marks, number);
+    let top = crate::top_of(lists.corners, o);
+    KeptTop { number, top }
 }
 
 // What is kept, or what its number asks for in its place.
-pub fn keep_top(
-    kept: KeptTop,
-    number: u8,
-    corners: &[f32],
-    numbers: &[f32],
-    marks: &[u8],
-) -> KeptTop
-    ensures { result ≡ cond (eqb number kept.number) kept (top_by corners.now numbers.now marks.now number) }
+pub fn keep_top(kept: KeptTop, number: u8, lists: Lists<'_>) -> KeptTop
+    ensures { result ≡ cond (eqb number kept.number) kept (top_by (seen lists.entry).corners (seen lists.entry).numbers (seen lists.entry).marks number) }
 {
     if number == kept.number {
         return kept;
     }
-    top_by(number, corners, numbers, marks)
+    top_by(number, lists)
 }

@@ -47,15 +47,11 @@ pub struct Top {
 pub fn skin_of(o: FaceOptions, span: Span) -> Skin
     ensures { result ≡ skin_of o span }
 {
-    let inset = o.inset;
-    let uv = o.uv;
-    let near = face::uv_mapping::alter_uv(uv, Vec2 { x: 0.0, y: 0.0 });
-    let far = face::uv_mapping::alter_uv(uv, Vec2 { x: 1.0, y: 0.0 });
     Skin {
-        inset: inset,
-        uv: uv,
-        left: near.x,
-        right: far.x,
+        inset: o.inset,
+        uv: o.uv,
+        left: face::uv_mapping::alter_uv(o.uv, Vec2 { x: 0.0, y: 0.0 }).x,
+        right: face::uv_mapping::alter_uv(o.uv, Vec2 { x: 1.0, y: 0.0 }).x,
         min: span.min,
         width: span.max - span.min,
     }
@@ -65,58 +61,41 @@ pub fn skin_of(o: FaceOptions, span: Span) -> Skin
 fn up_of(s: Skin, height: f32) -> f32
     ensures { result ≡ up_of s height }
 {
-    let uv = s.uv;
-    let v = (height - s.min) / s.width;
-    let t = face::uv_mapping::alter_uv(uv, Vec2 { x: 0.0, y: v });
-    t.y
+    let y = (height - s.min) / s.width;
+    face::uv_mapping::alter_uv(s.uv, Vec2 { x: 0.0, y }).y
 }
 
-pub fn level_of(s: Skin, top: f32) -> Level
-    ensures { result ≡ level_of s top }
+pub fn level_of(skin: Skin, top: f32) -> Level
+    ensures { result ≡ level_of skin top }
 {
-    Level {
-        skin: s,
-        top: top,
-        high: up_of(s, top),
-    }
+    let high = up_of(skin, top);
+    Level { skin, top, high }
 }
 
 // A wall between two ends, from its foot to its top, its uvs altered.
 pub fn wall_quad(v: Level, left: Vec2, right: Vec2, foot: f32) -> Quad
     ensures { result ≡ level_quad v left right foot }
 {
-    let s = v.skin;
-    let base = face::face::new_quad(left, right, foot, v.top);
-    let positions = base.positions;
-    let normal = base.normal;
-    let low = up_of(s, foot);
-    let uvs = [
-        Vec2 { x: s.right, y: low },
-        Vec2 {
-            x: s.right,
-            y: v.high,
-        },
-        Vec2 {
-            x: s.left,
-            y: v.high,
-        },
-        Vec2 { x: s.left, y: low },
-    ];
+    let Level { skin, top, high } = v;
+    let low = up_of(skin, foot);
+    let at = |x, y| Vec2 { x, y };
     Quad {
-        positions: positions,
-        normal: normal,
-        uvs: uvs,
+        uvs: [
+            at(skin.right, low),
+            at(skin.right, high),
+            at(skin.left, high),
+            at(skin.left, low),
+        ],
+        ..face::face::new_quad(left, right, foot, top)
     }
 }
 
 pub fn top_of(corners: &[f32], o: FaceOptions) -> Top
     ensures { result ≡ top_of corners.now o }
 {
-    let inset = o.inset;
-    let whole = plane_builder::cap::cap_hexagon(corners, o);
     Top {
-        inset: inset,
-        whole: whole,
+        inset: o.inset,
+        whole: plane_builder::cap::cap_hexagon(corners, o),
     }
 }
 

@@ -1,9 +1,9 @@
 -- Caps and walls laid cell by cell with what they share are the faces of the map. Assumes nothing.
-use mathlib.Core.Path.{◌≡◌, refl, sym, ap, ap₂, ◌∙◌}
+use mathlib.Core.Path.{◌≡◌, refl, sym, ap, ◌∙◌}
 use mathlib.Core.Bool.{Bool, true, false, cond}
 use mathlib.Core.List.{List, [], ◌∷◌, ◌++◌, map, map-append}
 use mathlib.Core.Logic.{◌⊎◌, inl, inr}
-use Prim.Native.Nat.{ℕ, zero, suc}
+use Prim.Native.Nat.{ℕ, suc}
 use borrow.Author.Tests.{eqb-true}
 use lib.Dec.{eqb}
 use lib.Ieee.{Float}
@@ -17,24 +17,17 @@ use Rattle.buffers.specs.Mesh.{Mesh, none, also, measure}
 use Rattle.buffers.specs.Laying.{Buffers, lay_each}
 use Rattle.buffers.proofs.Each.{SoFar, so_far_more, each_none}
 use Rattle.heightmap.specs.declared.Name.{Name}
-use Rattle.heightmap.specs.declared.Name.TheVariants.{Cap, Side}
+use Rattle.heightmap.specs.declared.Name.TheVariants.{Cap}
 use Rattle.heightmap.specs.declared.HeightMap.{HeightMap}
-use Rattle.heightmap.specs.Grid.{Grid, grid, cells_in, span_of, wall, present}
-use Rattle.heightmap.specs.HeightMap.{Lists, lists, cap_names, side_names, cell_names, map_names, option_of, cap_stand, mesh_of}
+use Rattle.heightmap.specs.Grid.{cells_in}
+use Rattle.heightmap.specs.HeightMap.{Lists, cap_names, side_names, cell_names, map_names, option_of, cap_stand, mesh_of}
 use Rattle.heightmap_faces.specs.declared.Top.{Top}
 use Rattle.heightmap_faces.specs.declared.kept.KeptTop.{KeptTop}
 use Rattle.heightmap_faces.specs.Speed.{top_of}
 use Rattle.heightmap_faces.specs.Kept.{top_by}
-use Rattle.heightmap_faces.specs.Named.{side_of}
-use Rattle.heightmap_faces.proofs.Plain.{cap-is, side-is}
+use Rattle.heightmap_faces.proofs.Plain.{cap-is}
 use Rattle.heightmap_laying.specs.declared.Shared.{Shared}
-use Rattle.heightmap_laying.specs.Shared.{shared_of, top_faces, level_mesh, sides_faces, cell_faces, all_laid}
-
--- what is shared hangs on the cells and the table alone
-pub shared-for : (job : HeightMap) (cs : List Float) (ns : List ℕ) (fs : List Float) (us : List ℕ) (xs : List Float) (ms : List ℕ) (s : Shared)
-    → s ≡ shared_of job (lists (grid cs [] []) [] [] xs ms) → s ≡ shared_of s.job (lists (grid cs ns fs) us [] xs ms)
-unfolding span_of
-shared-for job cs ns fs us xs ms s e = e ∙ ap (λ (j : HeightMap). shared_of j (lists (grid cs ns fs) us [] xs ms)) (sym (ap (λ (x : Shared). x.job) e))
+use Rattle.heightmap_laying.specs.Shared.{shared_of, top_faces, sides_faces, cell_faces, all_laid}
 
 -- of the caps that are kept, the one of a number: the first where it is that number's, else the other, made anew if need be
 module _ (cs ns : List Float) (ms : List ℕ) where
@@ -57,56 +50,35 @@ module _ (cs ns : List Float) (ms : List ℕ) where
       let m = w ∙ ap (top_by cs ns ms) (sym (d ∙ ap (λ (y : KeptTop). y.number) w)) in
       (e ∙ k ∙ ap (top_by cs ns ms) (sym (ap (λ (y : KeptTop). y.number) e)), t ∙ ap (λ (y : KeptTop). y.top) m)
 
-module _ (job : HeightMap) (g : Grid) (us : List ℕ) (ps xs : List Float) (ms : List ℕ) (k : ℕ) where
-  -- a wall has no use for the cap corners
-  wall-alike : (d : ℕ) → mesh_of job (lists g us [] xs ms) (Side k d) ≡ mesh_of job (lists g us ps xs ms) (Side k d)
-  unfolding mesh_of
-  wall-alike d = refl
-
-  -- nor has one by its name
-  pub side-bare : (d : ℕ)
-      → (let q = side_of job (lists g us [] xs ms) k d in level_mesh q.stand q.level q.left q.right q.foot) ≡ mesh_of job (lists g us ps xs ms) (Side k d)
-  side-bare d = sym (side-is job (lists g us [] xs ms) k d) ∙ wall-alike d
-
-  walls-alike : (d : ℕ) → sides_faces job (lists g us [] xs ms) k d ≡ sides_faces job (lists g us ps xs ms) k d
-  walls-alike zero = refl
-  walls-alike (suc d) =
-      map-append (mesh_of job (lists g us [] xs ms)) (chain (side_names job g k) d) (side_names job g k d)
-      ∙ ap₂ ◌++◌ (walls-alike d) (go (present (wall job g k d)))
-      ∙ sym (map-append (mesh_of job (lists g us ps xs ms)) (chain (side_names job g k) d) (side_names job g k d))
-    where
-      go : (b : Bool) → map (mesh_of job (lists g us [] xs ms)) (cond b (Side k d ∷ []) []) ≡ map (mesh_of job (lists g us ps xs ms)) (cond b (Side k d ∷ []) [])
-      go true = ap (λ (m : Mesh). m ∷ []) (wall-alike d)
-      go false = refl
-
-  cap-are : top_faces job.caps (cap_stand job g k) (top_of ps (option_of job (lists g us ps xs ms) (Cap k))) ≡ map (mesh_of job (lists g us ps xs ms)) (cap_names job.caps k)
+module _ (job : HeightMap) (ls : Lists) (k : ℕ) where
+  cap-are : top_faces job.caps (cap_stand job ls.grid k) (top_of ls.corners (option_of job ls (Cap k))) ≡ map (mesh_of job ls) (cap_names job.caps k)
   cap-are = go job.caps
     where
-      go : (c : Choice) → top_faces c (cap_stand job g k) (top_of ps (option_of job (lists g us ps xs ms) (Cap k))) ≡ map (mesh_of job (lists g us ps xs ms)) (cap_names c k)
+      go : (c : Choice) → top_faces c (cap_stand job ls.grid k) (top_of ls.corners (option_of job ls (Cap k))) ≡ map (mesh_of job ls) (cap_names c k)
       go option.Absent = refl
-      go (option.With o) = ap (λ (m : Mesh). m ∷ []) (sym (cap-is job (lists g us ps xs ms) k))
+      go (option.With o) = ap (λ (m : Mesh). m ∷ []) (sym (cap-is job ls k))
 
-  cell-are : (top : Top) → top ≡ top_of ps (option_of job (lists g us ps xs ms) (Cap k))
-      → cell_faces job (lists g us [] xs ms) k top ≡ map (mesh_of job (lists g us ps xs ms)) (cell_names job g k)
+  cell-are : (top : Top) → top ≡ top_of ls.corners (option_of job ls (Cap k))
+      → cell_faces job ls k top ≡ map (mesh_of job ls) (cell_names job ls.grid k)
   cell-are top e =
-      ap (λ (t : Top). cell_faces job (lists g us [] xs ms) k t) e
-      ∙ ap₂ ◌++◌ cap-are (walls-alike 6)
-      ∙ sym (map-append (mesh_of job (lists g us ps xs ms)) (cap_names job.caps k) (chain (side_names job g k) 6))
+      ap (λ (t : Top). cell_faces job ls k t) e
+      ∙ ap (λ (m : List Mesh). m ++ sides_faces job ls k 6) cap-are
+      ∙ sym (map-append (mesh_of job ls) (cap_names job.caps k) (chain (side_names job ls.grid k) 6))
 
   -- one cell more
   pub cell-more : (at place next : Counts) (B C D : Buffers) (own : HeightMap) (top : Top)
-      → SoFar (map (mesh_of job (lists g us ps xs ms)) (chain (cell_names job g) k)) at B place C
+      → SoFar (map (mesh_of job ls) (chain (cell_names job ls.grid) k)) at B place C
       → own ≡ job
-      → top ≡ top_of ps (option_of job (lists g us ps xs ms) (Cap k))
-      → next ≡ also place (measure (cell_faces own (lists g us [] xs ms) k top))
-      → D ≡ lay_each (cell_faces own (lists g us [] xs ms) k top) place C
-      → SoFar (map (mesh_of job (lists g us ps xs ms)) (chain (cell_names job g) (suc k))) at B next D
+      → top ≡ top_of ls.corners (option_of job ls (Cap k))
+      → next ≡ also place (measure (cell_faces own ls k top))
+      → D ≡ lay_each (cell_faces own ls k top) place C
+      → SoFar (map (mesh_of job ls) (chain (cell_names job ls.grid) (suc k))) at B next D
   cell-more at place next B C D own top h o t n x =
-      let f = mesh_of job (lists g us ps xs ms) in
-      let more : List Mesh = map f (cell_names job g k) in
-      let e : cell_faces own (lists g us [] xs ms) k top ≡ more = ap (λ (j : HeightMap). cell_faces j (lists g us [] xs ms) k top) o ∙ cell-are top t in
-      rw (map-append f (chain (cell_names job g) k) (cell_names job g k))
-      (so_far_more (map f (chain (cell_names job g) k)) more at B place next C D h (n ∙ ap (λ (y : List Mesh). also place (measure y)) e) (x ∙ ap (λ (y : List Mesh). lay_each y place C) e))
+      let f = mesh_of job ls in
+      let more : List Mesh = map f (cell_names job ls.grid k) in
+      let e : cell_faces own ls k top ≡ more = ap (λ (j : HeightMap). cell_faces j ls k top) o ∙ cell-are top t in
+      rw (map-append f (chain (cell_names job ls.grid) k) (cell_names job ls.grid k))
+      (so_far_more (map f (chain (cell_names job ls.grid) k)) more at B place next C D h (n ∙ ap (λ (y : List Mesh). also place (measure y)) e) (x ∙ ap (λ (y : List Mesh). lay_each y place C) e))
 
 -- every cell, or none of too many
 pub all_laid_lem : (job : HeightMap) (ls : Lists) (B : Buffers)

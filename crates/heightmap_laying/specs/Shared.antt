@@ -1,7 +1,6 @@
 -- The faces of a height map by what they share, which speed alone asks for; proofs/Walls.antt and Cells.antt say that
 -- they are the map's own. Definitions only.
 use Rattle.std.specs.Prelude.{ℕ, cond, List, [], ◌∷◌, ◌++◌, map, Float}
-use Rattle.std.specs.Borrow.{Bor}
 use Rattle.face.specs.declared.vec.Vec2.{Vec2}
 use Rattle.face.specs.Lists.{chain}
 use Rattle.answer.specs.Checks.{cell_count}
@@ -17,8 +16,8 @@ use Rattle.heightmap.specs.declared.Wall.{Wall}
 use Rattle.heightmap.specs.declared.Name.{Name}
 use Rattle.heightmap.specs.declared.Name.TheVariants.{Side}
 use Rattle.heightmap.specs.declared.HeightMap.{HeightMap}
-use Rattle.heightmap.specs.Grid.{grid, cells_in, span_of, present, foot_of}
-use Rattle.heightmap.specs.HeightMap.{Lists, lists, side_names, custom_at, custom_place, own_choice, chosen, side_stand, cap_stand, mesh_of, map_faces}
+use Rattle.heightmap.specs.Grid.{cells_in, span_of, present, foot_of}
+use Rattle.heightmap.specs.HeightMap.{Lists, side_names, custom_at, custom_place, own_choice, chosen, side_stand, cap_stand, mesh_of, map_faces}
 use Rattle.heightmap_faces.specs.declared.Level.{Level}
 use Rattle.heightmap_faces.specs.declared.Top.{Top}
 use Rattle.heightmap_faces.specs.Speed.{skin_of, level_quad}
@@ -36,10 +35,6 @@ shared_of job ls =
       own = number_in job.sides;
       skin = skin_of (option_at ls.numbers ls.marks (number_in job.sides)) s;
     }
-
--- the lists that a side needs, where something is required of them
-abbrev pub lending_for_sides : Bor (List Float) → Bor (List ℕ) → Bor (List Float) → Bor (List ℕ) → Bor (List Float) → Bor (List ℕ) → Lists
-lending_for_sides c n f u k m = lists (grid c.now n.now f.now) u.now [] k.now m.now
 
 -- a cap, and the list of it or of none
 abbrev pub top_mesh : Stand → Top → Mesh

@@ -27,9 +27,8 @@ use Rattle.heightmap.proofs.Counts.{cap-sum, sides-sum, cells-sum, map-counts}
 use Rattle.heightmap_plan.specs.declared.tally.Goal.{Goal}
 use Rattle.heightmap_plan.specs.declared.tally.Goal.TheVariants.{Face, Cell}
 use Rattle.heightmap_plan.specs.declared.tally.Tally.{Tally}
-use Rattle.heightmap_plan.specs.declared.tally.Walls.{Walls}
 use Rattle.heightmap_plan.specs.declared.tally.Walk.{Walk}
-use Rattle.heightmap_plan.specs.Walking.{tally_to, tally_of, up_to, marked, walked, caps_in, marked_walls, walked_walls}
+use Rattle.heightmap_plan.specs.Walking.{Walls, tally_to, tally_of, up_to, marked, walked, caps_in, marked_walls, walked_walls}
 use Rattle.heightmap_plan.specs.Finding.{found_by, found_in, found_in_sides, found_in_cell, placed_by, placed_at}
 use Rattle.heightmap_plan.proofs.Walking.{Small, cells-small, walked_all, walk-counted, map-counted, caps-more, faces-by-walls}
 
@@ -114,21 +113,21 @@ module _ (job : HeightMap) (ls : Lists) (c : ℕ) where
   cell-before zero h = absurd (let u : c < 0 = h in omega arith)
   cell-before (suc n) h = go (leb n c) refl (cell-before n)
     where
-      w : Walk
+      w : Walk Tally
       w = walked job ls (Cell c) n
 
       go : (b : Bool) → leb n c ≡ b → (c < n → w.before ≡ tally_to job ls c) → (cond b (record { all = w.all; cell = n; before = w.all }) w).before ≡ tally_to job ls c
       go true e earlier = let u = leb-true n c e in let s : n ≡ c = omega arith in walked_all job ls (Cell c) n ∙ ap (tally_to job ls) s
       go false e earlier = earlier (leb-false n c e)
 
-  pub side_before : (n : ℕ) (w : Walk) → w ≡ walked job ls (Cell c) n → c < n → n ≤ 65536
+  pub side_before : (n : ℕ) (w : Walk Tally) → w ≡ walked job ls (Cell c) n → c < n → n ≤ 65536
       → ((c ≤ 65536) × (w.before.faces ≤ 458752)) × (w.before.faces ≡ faces_before job ls.grid c)
   side_before n w e h m =
-      let f : w.before.faces ≡ faces_before job ls.grid c = ap (λ (v : Walk). v.before.faces) e ∙ ap (λ (t : Tally). t.faces) (cell-before n h) in
+      let f : w.before.faces ≡ faces_before job ls.grid c = ap (λ (v : Walk Tally). v.before.faces) e ∙ ap (λ (t : Tally). t.faces) (cell-before n h) in
       let s = cells-small job ls c in
       ((omega arith, omega (arith, s.faces)), f)
 
-  pub all-walked : (n : ℕ) (w : Walk) → w ≡ walked job ls (Cell c) n → n ≡ cells_in ls.grid.cells → cell_count (cells_in ls.grid.cells) ≡ true → w.all ≡ tally_of job ls
+  pub all-walked : (n : ℕ) (w : Walk Tally) → w ≡ walked job ls (Cell c) n → n ≡ cells_in ls.grid.cells → cell_count (cells_in ls.grid.cells) ≡ true → w.all ≡ tally_of job ls
   all-walked n w e p f = map-counted job ls (Cell c) n w e p ∙ sym (rw f)
 
 -- the number of a side, of a cell that is there and of one that is not
@@ -148,14 +147,14 @@ module _ (job : HeightMap) (ls : Lists) (k d : ℕ) (t : Tally) (e : t ≡ tally
   too_many f = ap₂ placed_by e (rw f)
 
 -- ---- in the map: the cell of the face that the walk has found
-pub record Located (job : HeightMap) (ls : Lists) (i k : ℕ) (w : Walk) : Type 0 where
+pub record Located (job : HeightMap) (ls : Lists) (i k : ℕ) (w : Walk Tally) : Type 0 where
   pub before : w.before ≡ tally_to job ls w.cell
   pub low : faces_before job ls.grid w.cell ≤ i
   pub within : w.cell ≤ k
   pub high : (k ≤ suc w.cell) ⊎ (i < faces_before job ls.grid (suc w.cell))
 
 module _ (job : HeightMap) (ls : Lists) (i : ℕ) where
-  mark-located : (k : ℕ) (w : Walk) → w.all ≡ tally_to job ls k → Located job ls i k w → Located job ls i (suc k) (marked w k (Face i))
+  mark-located : (k : ℕ) (w : Walk Tally) → w.all ≡ tally_to job ls k → Located job ls i k w → Located job ls i (suc k) (marked w k (Face i))
   mark-located k w a h = go (leb w.all.faces i) refl
     where
       same : w.all.faces ≡ faces_before job ls.grid k
@@ -186,9 +185,9 @@ module _ (job : HeightMap) (ls : Lists) (i : ℕ) where
       let h = mark-located k (walked job ls (Face i) k) (walked_all job ls (Face i) k) (located k) in
       record { before = h.before; low = h.low; within = h.within; high = h.high }
 
-module _ (job : HeightMap) (ls : Lists) (i n : ℕ) (w : Walk) (e : w ≡ walked job ls (Face i) n) (p : n ≡ cells_in ls.grid.cells) where
+module _ (job : HeightMap) (ls : Lists) (i n : ℕ) (w : Walk Tally) (e : w ≡ walked job ls (Face i) n) (p : n ≡ cells_in ls.grid.cells) where
   here : Located job ls i n w
-  here = subst (λ (v : Walk). Located job ls i n v) (sym e) (located job ls i n)
+  here = subst (λ (v : Walk Tally). Located job ls i n v) (sym e) (located job ls i n)
 
   all-faces : w.all.faces ≡ faces_before job ls.grid n
   all-faces = ap (λ (t : Tally). t.faces) (walk-counted job ls (Face i) n w e)

@@ -5,6 +5,7 @@ use mathlib.Core.List.{[], ◌∷◌}
 use Prim.Native.Nat.{ℕ, zero, suc, ◌+◌, ◌*◌, ◌≤◌}
 use native.Mathlib.Nat.{add-mul, mul-le-mul}
 use native.Mathlib.Omega.{arith}
+use mir.Val.{bool_byte}
 use lib.Ieee.{Float, lt}
 use lib.ListN.{length, length-append}
 use Rattle.face.specs.declared.inset.Inset.{Inset}
@@ -22,12 +23,11 @@ use Rattle.heightmap.specs.declared.HeightMap.{HeightMap}
 use Rattle.heightmap.specs.declared.Name.TheVariants.{Cap, Side}
 use Rattle.heightmap_plan.specs.declared.tally.Goal.{Goal}
 use Rattle.heightmap_plan.specs.declared.tally.Tally.{Tally}
-use Rattle.heightmap_plan.specs.declared.tally.Walls.{Walls}
 use Rattle.heightmap_plan.specs.declared.tally.Walk.{Walk}
 use Rattle.heightmap.specs.Grid.{Grid, cells_in, height_at, fringe_at, against, edge_by, wall_by, wall, present}
 use Rattle.heightmap.specs.HeightMap.{Lists, cap_names, side_names, cell_names, map_names, option_of}
 use Rattle.heightmap.specs.Counts.{size_by, if_on, cap_counts, side_counts, map_counts}
-use Rattle.heightmap_plan.specs.Walking.{tally_by, both, cap_tally, side_tally, sides_tally, cell_tally, tally_to, up_to, marked, walked, one_if, edge_stands, walls_to, caps_in, marked_walls, walked_walls, many, own_cap, own_wall, own_tally, own_walk}
+use Rattle.heightmap_plan.specs.Walking.{Walls, tally_by, both, cap_tally, side_tally, sides_tally, cell_tally, tally_to, up_to, marked, walked, one_if, edge_stands, walls_to, caps_in, marked_walls, walked_walls, many, own_cap, own_wall, own_tally, own_walk}
 
 -- ---- at most so many faces, each with at most 50 vertices and 50 indices
 pub record Small (m : ℕ) (t : Tally) : Type 0 where
@@ -87,7 +87,7 @@ module _ (job : HeightMap) (ls : Lists) where
   cells-small (suc k) = rw (← cells-more k) (let s = small-both (cells-small k) (cell-small k) in record { faces = omega arith; vertices = omega arith; indices = omega arith })
 
 -- ---- what the walk has counted
-pub marked_all : (w : Walk) (k : ℕ) (goal : Goal) → (marked w k goal).all ≡ w.all
+pub marked_all : (w : Walk Tally) (k : ℕ) (goal : Goal) → (marked w k goal).all ≡ w.all
 marked_all w k goal = go (up_to goal k w.all.faces)
   where
     go : (b : Bool) → (cond b (record { all = w.all; cell = k; before = w.all }) w).all ≡ w.all
@@ -99,13 +99,17 @@ module _ (job : HeightMap) (ls : Lists) (goal : Goal) where
   walked_all zero = refl
   walked_all (suc k) = ap (λ (t : Tally). both t (cell_tally job ls k)) (marked_all (walked job ls goal k) k goal ∙ walked_all k) ∙ cells-more job ls k
 
-  pub walk-small : (k : ℕ) (w m : Walk) → w ≡ walked job ls goal k → m ≡ marked w k goal → Small (7 * k) m.all
+  pub walk-small : (k : ℕ) (w m : Walk Tally) → w ≡ walked job ls goal k → m ≡ marked w k goal → Small (7 * k) m.all
   walk-small k w m p q =
       subst (λ (t : Tally). Small (7 * k) t)
-      (sym (ap (λ (v : Walk). v.all) q ∙ marked_all w k goal ∙ ap (λ (v : Walk). v.all) p ∙ walked_all k))
+      (sym (ap (λ (v : Walk Tally). v.all) q ∙ marked_all w k goal ∙ ap (λ (v : Walk Tally). v.all) p ∙ walked_all k))
       (cells-small job ls k)
 
 -- ---- the walls alone
+pub byte-is : (b : Bool) → bool_byte b ≡ one_if b
+byte-is true = refl
+byte-is false = refl
+
 pub walls-most : (s : Choice) (how : Fringe) (g : Grid) (k d : ℕ) → walls_to s how g k d ≤ d
 walls-most s how g k zero = omega arith
 walls-most s how g k (suc d) = go (present (wall_by s how g k d)) (walls-most s how g k d)
@@ -220,12 +224,12 @@ module _ (job : HeightMap) (ls : Lists) (e : job.customs ≡ customs.Absent) whe
 
   pub own-walk : (goal : Goal) (k : ℕ) → own_walk job ls (walked_walls job.caps job.sides job.fringe ls.grid goal k) k ≡ walked job ls goal k
   own-walk goal zero = rw own-none
-  own-walk goal (suc k) = go (up_to goal k (caps_in job.caps k + w.all)) ∙ ap (λ (v : Walk). grown_by (marked v k goal)) (own-walk goal k)
+  own-walk goal (suc k) = go (up_to goal k (caps_in job.caps k + w.all)) ∙ ap (λ (v : Walk Tally). grown_by (marked v k goal)) (own-walk goal k)
     where
       w : Walls
       w = walked_walls job.caps job.sides job.fringe ls.grid goal k
 
-      grown_by : Walk → Walk
+      grown_by : Walk Tally → Walk Tally
       grown_by v = record { all = both v.all (cell_tally job ls k); cell = v.cell; before = v.before }
 
       go : (b : Bool)
@@ -247,9 +251,9 @@ many-few n c h q =
     let b : n * c.indices.0 ≤ 393216 * 50 = mul-le-mul h q.1 in
     (omega arith, omega arith)
 
-module _ (job : HeightMap) (ls : Lists) (goal : Goal) (n : ℕ) (w : Walk) (e : w ≡ walked job ls goal n) where
+module _ (job : HeightMap) (ls : Lists) (goal : Goal) (n : ℕ) (w : Walk Tally) (e : w ≡ walked job ls goal n) where
   pub walk-counted : w.all ≡ tally_to job ls n
-  walk-counted = ap (λ (v : Walk). v.all) e ∙ walked_all job ls goal n
+  walk-counted = ap (λ (v : Walk Tally). v.all) e ∙ walked_all job ls goal n
 
   -- all cells
   pub map-counted : n ≡ cells_in ls.grid.cells → w.all ≡ tally_by (length (map_names job ls.grid)) (map_counts job ls)

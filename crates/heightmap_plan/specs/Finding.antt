@@ -1,6 +1,6 @@
 -- Which face a number is and where it starts, guarded by the number of cells so that no sum wraps on lists that are not
 -- tested; R12, R16 and L3d are rows of docs/TRACE.md. Definitions only.
-use Rattle.std.specs.Prelude.{ℕ, ◌&&◌, cond, List, [], map, ltb, length, get_or}
+use Rattle.std.specs.Prelude.{ℕ, ◌&&◌, cond, List, map, ltb, length, get_or}
 use Rattle.face.specs.declared.triangle.Counts.{Counts}
 use Rattle.face.specs.Lists.{chain}
 use Rattle.answer.specs.Answers.{Answer}
@@ -11,7 +11,7 @@ use Rattle.heightmap.specs.declared.Name.{Name}
 use Rattle.heightmap.specs.declared.Name.TheVariants.{Cap, Side}
 use Rattle.heightmap.specs.declared.HeightMap.{HeightMap}
 use Rattle.heightmap.specs.Grid.{Grid, cells_in}
-use Rattle.heightmap.specs.HeightMap.{Lists, lists, side_names, cell_names, map_names, mesh_of, map_faces}
+use Rattle.heightmap.specs.HeightMap.{Lists, side_names, cell_names, map_names, mesh_of, map_faces}
 use Rattle.heightmap.specs.Tests.{planned}
 use Rattle.heightmap.specs.Names.{name_at, start_by, number_of}
 use Rattle.heightmap_plan.specs.declared.names.Found.{Found}
@@ -69,6 +69,6 @@ placed_at job ls k d = placed_by (tally_of job ls) (side_number job ls.grid k d)
 abbrev pub numbered : HeightMap → Lists → ℕ → Answer
 numbered job ls k = named (planned job ls) k (length (map_faces job ls))
 
--- with the face of the number, which has no use for the cap corners
+-- with the face of the number
 abbrev pub sought_at : HeightMap → Lists → ℕ → Sought
-sought_at job ls k = record { answer = numbered job ls k; found = found_at job (lists ls.grid ls.customs [] ls.numbers ls.marks) k }
+sought_at job ls k = record { answer = numbered job ls k; found = found_at job ls k }

@@ -17,7 +17,6 @@ use Rattle.heightmap.specs.declared.HeightMap.{HeightMap}
 use Rattle.heightmap_plan.specs.declared.tally.Goal.{Goal}
 use Rattle.heightmap_plan.specs.declared.tally.Goal.TheVariants.{Face, Cell}
 use Rattle.heightmap_plan.specs.declared.tally.Tally.{Tally}
-use Rattle.heightmap_plan.specs.declared.tally.Walls.{Walls}
 use Rattle.heightmap_plan.specs.declared.tally.Walk.{Walk}
 use Rattle.heightmap.specs.Grid.{Grid, cells_in, wall_by, present}
 use Rattle.heightmap.specs.HeightMap.{Lists, cap_names, side_names, cell_names, map_names}
@@ -58,16 +57,20 @@ abbrev pub up_to : Goal → ℕ → ℕ → Bool
 up_to (Face number) k faces = leb faces number
 up_to (Cell cell) k faces = leb k cell
 
-abbrev pub walk_by : Tally → ℕ → Tally → Walk
+abbrev pub walk_by : {T : Type 0} → T → ℕ → T → Walk T
 walk_by all cell before = record { all = all; cell = cell; before = before }
 
-abbrev pub marked : Walk → ℕ → Goal → Walk
-marked w k goal = cond (up_to goal k w.all.faces) (walk_by w.all k w.all) w
+-- at a cell with so many faces before it
+abbrev pub marked_at : {T : Type 0} → Walk T → ℕ → ℕ → Goal → Walk T
+marked_at w k faces goal = cond (up_to goal k faces) (walk_by w.all k w.all) w
 
-abbrev pub grown : Walk → Tally → Walk
+abbrev pub marked : Walk Tally → ℕ → Goal → Walk Tally
+marked w k goal = marked_at w k w.all.faces goal
+
+abbrev pub grown : Walk Tally → Tally → Walk Tally
 grown w t = walk_by (both w.all t) w.cell w.before
 
-abbrev pub walked : HeightMap → Lists → Goal → ℕ → Walk
+abbrev pub walked : HeightMap → Lists → Goal → ℕ → Walk Tally
 walked job ls goal zero = walk_by (tally_by 0 none) 0 (tally_by 0 none)
 walked job ls goal (suc k) = grown (marked (walked job ls goal k) k goal) (cell_tally job ls k)
 
@@ -92,17 +95,18 @@ abbrev pub caps_in : Choice → ℕ → ℕ
 caps_in option.Absent k = 0
 caps_in (option.With o) k = k
 
-abbrev pub walls_by : ℕ → ℕ → ℕ → Walls
-walls_by all cell before = record { all = all; cell = cell; before = before }
+-- a walk that counts walls alone
+abbrev pub Walls : Type 0
+Walls = Walk ℕ
 
 abbrev pub marked_walls : Choice → Walls → ℕ → Goal → Walls
-marked_walls caps w k goal = cond (up_to goal k (caps_in caps k + w.all)) (walls_by w.all k w.all) w
+marked_walls caps w k goal = marked_at w k (caps_in caps k + w.all) goal
 
 abbrev pub grown_walls : Walls → ℕ → Walls
-grown_walls w n = walls_by (w.all + n) w.cell w.before
+grown_walls w n = walk_by (w.all + n) w.cell w.before
 
 abbrev pub walked_walls : Choice → Choice → Fringe → Grid → Goal → ℕ → Walls
-walked_walls caps sides how g goal zero = walls_by 0 0 0
+walked_walls caps sides how g goal zero = walk_by 0 0 0
 walked_walls caps sides how g goal (suc k) =
     grown_walls (marked_walls caps (walked_walls caps sides how g goal k) k goal) (walls_to sides how g k 6)
 
@@ -120,5 +124,5 @@ abbrev pub own_tally : HeightMap → Lists → ℕ → ℕ → Tally
 own_tally job ls k walls =
     tally_by (caps_in job.caps k + walls) (also (many (caps_in job.caps k) (own_cap job ls)) (many walls (own_wall job ls)))
 
-abbrev pub own_walk : HeightMap → Lists → Walls → ℕ → Walk
+abbrev pub own_walk : HeightMap → Lists → Walls → ℕ → Walk Tally
 own_walk job ls w n = walk_by (own_tally job ls n w.all) w.cell (own_tally job ls w.cell w.before)

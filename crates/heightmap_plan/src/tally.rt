@@ -1,21 +1,21 @@
 // How many faces a map has and what they take, in one walk over its cells, which also finds a cell: that of a face, or
 // one by its number.
-ghost use Rattle.std.specs.Prelude.{◌≡◌, cond, [], ◌+◌, ◌*◌, ◌≤◌, ◌<◌, ◌^◌, get_or};
-ghost use Rattle.std.specs.Float.{nan};
+ghost use Rattle.std.specs.Prelude.{◌≡◌, cond, ◌+◌, ◌*◌, ◌≤◌, ◌<◌, ◌^◌};
 ghost use Rattle.answer.specs.Checks.{cell_count};
 ghost use Rattle.buffers.specs.Mesh.{none, also};
-ghost use Rattle.heightmap.specs.Grid.{lent_grid, nobody, beside_by, present};
-ghost use Rattle.heightmap.specs.Grid.{grid};
-ghost use Rattle.heightmap.specs.HeightMap.{lists, lent_for_counts, lent_for_options};
+ghost use Rattle.heightmap.specs.Grid.{seen_grid, beside_by, present};
+ghost use Rattle.heightmap.specs.HeightMap.{seen};
 ghost use Rattle.heightmap.specs.Counts.{cell_start};
-ghost use Rattle.heightmap_plan.specs.Walking.{tally_by, both, cap_tally, side_tally, cell_tally, tally_of, up_to, marked, grown, walked};
-ghost use Rattle.heightmap_plan.specs.Walking.{added, one_if, edge_stands, walls_to, caps_in, marked_walls, grown_walls, walked_walls, many, own_tally, own_walk};
+ghost use Rattle.heightmap_plan.specs.Walking.{tally_by, both, cap_tally, side_tally, cell_tally, tally_of, up_to, marked_at, walked};
+ghost use Rattle.heightmap_plan.specs.Walking.{added, one_if, edge_stands, walls_to, caps_in, walked_walls, many, own_tally, own_walk};
 
 use face::triangle::{Counts, IndexPlace, VertexNumber};
+use heightmap::grid::{Grid, NOBODY, element_or};
+use heightmap::{Customs, Fringe, HeightMap, Lists, Name};
 use placement::options::Choice;
 
 // How many faces, and what they take.
-#[derive(Clone, Copy)]
+#[derive(Clone, Copy, Default)]
 pub struct Tally {
     pub faces: usize,
     pub counts: Counts,
@@ -28,40 +28,15 @@ pub enum Goal {
     Cell(usize),
 }
 
-// Of the first cells all faces; and the cell that is looked for, or the last before it, with what lies before that.
+// What is counted of the first cells; and the cell that is looked for, or the last before it, with what lies before that.
 #[derive(Clone, Copy)]
-pub struct Walk {
-    pub all: Tally,
+pub struct Walk<T> {
+    pub all: T,
     pub cell: usize,
-    pub before: Tally,
+    pub before: T,
 }
 
-// The same of the walls alone.
-#[derive(Clone, Copy)]
-pub struct Walls {
-    pub all: usize,
-    pub cell: usize,
-    pub before: usize,
-}
-
-fn zero() -> Counts
-    ensures { result ≡ none }
-{
-    Counts {
-        vertices: VertexNumber(0),
-        indices: IndexPlace(0),
-    }
-}
-
-pub(crate) fn nothing() -> Tally
-    ensures { result ≡ tally_by 0 none }
-{
-    Tally {
-        faces: 0,
-        counts: zero(),
-    }
-}
-
+// The same in each crate that counts: as no public function has a `requires`, it is not handed from one to the other.
 pub(crate) fn add(a: Counts, b: Counts) -> Counts
     requires { (a.vertices.0 + b.vertices.0 < 2 ^ 64) × (a.indices.0 + b.indices.0 < 2 ^ 64) }
     ensures { result ≡ also a b }
@@ -82,257 +57,153 @@ fn times(n: usize, c: Counts) -> Counts
     }
 }
 
-fn join(a: Tally, b: Tally) -> Tally
-    requires faces_bound { a.faces + b.faces < 2 ^ 64 }
-    requires vertices_bound { a.counts.vertices.0 + b.counts.vertices.0 < 2 ^ 64 }
-    requires indices_bound { a.counts.indices.0 + b.counts.indices.0 < 2 ^ 64 }
-    ensures { result ≡ both a b }
-{
-    let x = a.counts;
-    let y = b.counts;
-    Tally {
-        faces: a.faces + b.faces,
-        counts: add(x, y),
+impl Tally {
+    fn one(counts: Counts) -> Tally
+        ensures { result ≡ tally_by 1 counts }
+    {
+        Tally { faces: 1, counts }
+    }
+
+    fn join(self, more: Tally) -> Tally
+        requires faces_bound { self.faces + more.faces < 2 ^ 64 }
+        requires vertices_bound { self.counts.vertices.0 + more.counts.vertices.0 < 2 ^ 64 }
+        requires indices_bound { self.counts.indices.0 + more.counts.indices.0 < 2 ^ 64 }
+        ensures { result ≡ both self more }
+    {
+        Tally {
+            faces: self.faces + more.faces,
+            counts: add(self.counts, more.counts),
+        }
+    }
+}
+
+impl Goal {
+    // Whether a cell, with so many faces before it, lies at or before what is looked for.
+    fn is_up_to(self, k: usize, faces: usize) -> bool
+        ensures { result ≡ up_to self k faces }
+    {
+        match self {
+            Goal::Face(number) => faces <= number,
+            Goal::Cell(cell) => k <= cell,
+        }
+    }
+}
+
+impl<T: Copy> Walk<T> {
+    // At a cell with so many faces before it: that cell, unless it lies past what is looked for.
+    fn mark(self, k: usize, faces: usize, goal: Goal) -> Walk<T>
+        ensures { result ≡ marked_at self k faces goal }
+    {
+        if goal.is_up_to(k, faces) {
+            return Walk {
+                all: self.all,
+                cell: k,
+                before: self.all,
+            };
+        }
+        self
     }
 }
 
 // The cap of a cell, or nothing where caps are off.
-pub(crate) fn cap_tally(
-    job: heightmap::HeightMap,
-    k: usize,
-    customs: &[u8],
-    numbers: &[f32],
-    marks: &[u8],
-) -> Tally
-    ensures { result ≡ cap_tally job (lent_for_options customs numbers marks) k }
+pub(crate) fn cap_tally(job: HeightMap, lists: Lists<'_>, k: usize) -> Tally
+    ensures { result ≡ cap_tally job (seen lists.entry) k }
 {
-    let caps = job.caps;
-    match caps {
-        Choice::Absent => nothing(),
+    match job.caps {
+        Choice::Absent => Tally::default(),
         Choice::With(_) => {
-            let name = heightmap::Name::Cap(k);
-            let o = heightmap::options::option_of(job, name, customs, numbers, marks);
-            let inset = o.inset;
-            Tally {
-                faces: 1,
-                counts: face::triangle::counts_of::<face::face::Hexagon>(inset),
-            }
+            let o = heightmap::options::option_of(job, Name::Cap(k), lists);
+            Tally::one(face::triangle::counts_of::<face::face::Hexagon>(o.inset))
         }
     }
 }
 
 // A side of a cell, or nothing where it does not stand.
-pub(crate) fn side_tally(
-    job: heightmap::HeightMap,
-    k: usize,
-    d: u8,
-    cells: &[f32],
-    neighbours: &[u32],
-    fringe: &[f32],
-    customs: &[u8],
-    numbers: &[f32],
-    marks: &[u8],
-) -> Tally
-    ensures { result ≡ side_tally job (lent_for_counts cells neighbours fringe customs numbers marks) k d }
+pub(crate) fn side_tally(job: HeightMap, lists: Lists<'_>, k: usize, d: u8) -> Tally
+    ensures { result ≡ side_tally job (seen lists.entry) k d }
 {
-    let sides = job.sides;
-    let how = job.fringe;
-    let w = heightmap::grid::wall_at(sides, how, cells, neighbours, fringe, k, d);
-    if heightmap::grid::is_present(w) {
-        let name = heightmap::Name::Side(k, d);
-        let o = heightmap::options::option_of(job, name, customs, numbers, marks);
-        let inset = o.inset;
-        return Tally {
-            faces: 1,
-            counts: face::triangle::counts_of::<face::face::Quad>(inset),
-        };
+    let wall = lists.grid.wall_at(job.sides, job.fringe, k, d);
+    if !wall.is_present() {
+        return Tally::default();
     }
-    nothing()
+    let o = heightmap::options::option_of(job, Name::Side(k, d), lists);
+    Tally::one(face::triangle::counts_of::<face::face::Quad>(o.inset))
 }
 
-fn cell_tally(
-    job: heightmap::HeightMap,
-    k: usize,
-    cells: &[f32],
-    neighbours: &[u32],
-    fringe: &[f32],
-    customs: &[u8],
-    numbers: &[f32],
-    marks: &[u8],
-) -> Tally
-    ensures { result ≡ cell_tally job (lent_for_counts cells neighbours fringe customs numbers marks) k }
+fn cell_tally(job: HeightMap, lists: Lists<'_>, k: usize) -> Tally
+    ensures { result ≡ cell_tally job (seen lists.entry) k }
 {
-    let mut t = nothing();
+    let mut t = Tally::default();
     for d in 0u8..6 {
-        let side = side_tally(
-            job, k, d, cells, neighbours, fringe, customs, numbers, marks,
-        );
-        t = join(t, side);
+        t = t.join(side_tally(job, lists, k, d));
     }
-    join(cap_tally(job, k, customs, numbers, marks), t)
-}
-
-// Whether a cell, with so many faces before it, lies at or before what is looked for.
-fn is_up_to(goal: Goal, k: usize, faces: usize) -> bool
-    ensures { result ≡ up_to goal k faces }
-{
-    match goal {
-        Goal::Face(number) => faces <= number,
-        Goal::Cell(cell) => k <= cell,
-    }
-}
-
-fn mark(w: Walk, k: usize, goal: Goal) -> Walk
-    ensures { result ≡ marked w k goal }
-{
-    let all = w.all;
-    if is_up_to(goal, k, all.faces) {
-        return Walk {
-            all: all,
-            cell: k,
-            before: all,
-        };
-    }
-    w
-}
-
-fn grow(w: Walk, t: Tally) -> Walk
-    requires faces_bound { w.all.faces + t.faces < 2 ^ 64 }
-    requires vertices_bound { w.all.counts.vertices.0 + t.counts.vertices.0 < 2 ^ 64 }
-    requires indices_bound { w.all.counts.indices.0 + t.counts.indices.0 < 2 ^ 64 }
-    ensures { result ≡ grown w t }
-{
-    let all = w.all;
-    let before = w.before;
-    Walk {
-        all: join(all, t),
-        cell: w.cell,
-        before: before,
-    }
+    cap_tally(job, lists, k).join(t)
 }
 
 // Face by face, each with its own option.
-fn walk_faces(
-    job: heightmap::HeightMap,
-    goal: Goal,
-    n: usize,
-    cells: &[f32],
-    neighbours: &[u32],
-    fringe: &[f32],
-    customs: &[u8],
-    numbers: &[f32],
-    marks: &[u8],
-) -> Walk
+fn walk_faces(job: HeightMap, lists: Lists<'_>, goal: Goal, n: usize) -> Walk<Tally>
     requires { n ≤ 65536 }
-    ensures { result ≡ walked job (lent_for_counts cells neighbours fringe customs numbers marks) goal n }
+    ensures { result ≡ walked job (seen lists.entry) goal n }
 {
     let mut w = Walk {
-        all: nothing(),
+        all: Tally::default(),
         cell: 0,
-        before: nothing(),
+        before: Tally::default(),
     };
     for k in 0usize..n {
-        let m = mark(w, k, goal);
-        w = grow(
-            m,
-            cell_tally(job, k, cells, neighbours, fringe, customs, numbers, marks),
-        );
+        let m = w.mark(k, w.all.faces, goal);
+        w = Walk {
+            all: m.all.join(cell_tally(job, lists, k)),
+            ..m
+        };
     }
     w
 }
 
-fn number_at(list: &[f32], i: usize) -> f32
-    ensures { result ≡ get_or list.now i nan }
-{
-    if i < list.len() {
-        return list[i];
-    }
-    0.0 / 0.0
-}
-
-fn link_at(list: &[u32], i: usize) -> u32
-    ensures { result ≡ get_or list.now i nobody }
-{
-    if i < list.len() {
-        return list[i];
-    }
-    4294967295
-}
-
-fn edge_stands(how: heightmap::Fringe, fringe: &[f32], i: usize, own: f32) -> bool
+#[tactic(auto, using(heightmap::proofs::Reading::no_number))]
+fn edge_stands(how: Fringe, fringe: &[f32], i: usize, own: f32) -> bool
     ensures { result ≡ edge_stands how fringe.now i own }
 {
     match how {
-        heightmap::Fringe::Bare => false,
-        heightmap::Fringe::Listed => number_at(fringe, i) < own,
+        Fringe::Bare => false,
+        Fringe::Listed => element_or(fringe, i, f32::NAN) < own,
     }
 }
 
 // Whether a side stands, where sides are on: no wall is made of it.
-fn stands(
-    how: heightmap::Fringe,
-    cells: &[f32],
-    neighbours: &[u32],
-    fringe: &[f32],
-    k: usize,
-    d: u8,
-) -> bool
+fn stands(how: Fringe, grid: Grid<'_>, k: usize, d: u8) -> bool
     requires { k ≤ 65536 }
-    ensures { result ≡ present (beside_by how (lent_grid cells neighbours fringe) k d) }
+    ensures { result ≡ present (beside_by how (seen_grid grid.entry) k d) }
 {
-    let own = number_at(cells, 27 * k);
+    let own = element_or(grid.cells, 27 * k, f32::NAN);
     let i = 6 * k + (d as usize);
-    let n = link_at(neighbours, i);
-    if n == 4294967295 {
-        return edge_stands(how, fringe, i, own);
+    let n = element_or(grid.neighbours, i, NOBODY);
+    if n == NOBODY {
+        return edge_stands(how, grid.fringe, i, own);
     }
-    number_at(cells, 27 * (n as usize)) < own
-}
-
-fn one_if(b: bool) -> usize
-    ensures { result ≡ one_if b }
-{
-    if b {
-        return 1;
-    }
-    0
+    element_or(grid.cells, 27 * (n as usize), f32::NAN) < own
 }
 
 // How many of the first n sides of a cell stand: one choice, and then no branch on heights.
-pub(crate) fn cell_walls(
-    sides: Choice,
-    how: heightmap::Fringe,
-    cells: &[f32],
-    neighbours: &[u32],
-    fringe: &[f32],
-    k: usize,
-    n: u8,
-) -> usize
+pub(crate) fn cell_walls(job: HeightMap, grid: Grid<'_>, k: usize, n: u8) -> usize
     requires { k ≤ 65536 }
-    ensures sum { result ≡ walls_to sides how (lent_grid cells neighbours fringe) k n }
+    ensures sum { result ≡ walls_to job.sides job.fringe (seen_grid grid.entry) k n }
     ensures small { result ≤ n }
 {
-    match sides {
+    match job.sides {
         Choice::Absent => 0,
-        Choice::With(_) => walls_beside(how, cells, neighbours, fringe, k, n),
+        Choice::With(_) => walls_beside(job.fringe, grid, k, n),
     }
 }
 
-fn walls_beside(
-    how: heightmap::Fringe,
-    cells: &[f32],
-    neighbours: &[u32],
-    fringe: &[f32],
-    k: usize,
-    n: u8,
-) -> usize
+fn walls_beside(how: Fringe, grid: Grid<'_>, k: usize, n: u8) -> usize
     requires { k ≤ 65536 }
-    ensures sum { result ≡ added (λ d. one_if (present (beside_by how (lent_grid cells neighbours fringe) k d))) n }
+    ensures sum { result ≡ added (λ d. one_if (present (beside_by how (seen_grid grid.entry) k d))) n }
     ensures small { result ≤ n }
 {
     let mut t = 0;
     for d in 0u8..n {
-        t += one_if(stands(how, cells, neighbours, fringe, k, d));
+        t += stands(how, grid, k, d) as usize;
     }
     t
 }
@@ -347,183 +218,92 @@ pub(crate) fn caps_in(caps: Choice, k: usize) -> usize
     }
 }
 
-fn mark_walls(caps: Choice, w: Walls, k: usize, goal: Goal) -> Walls
-    requires { (k ≤ 65536) × (w.all ≤ 393216) }
-    ensures { result ≡ marked_walls caps w k goal }
-{
-    if is_up_to(goal, k, caps_in(caps, k) + w.all) {
-        return Walls {
-            all: w.all,
-            cell: k,
-            before: w.all,
-        };
-    }
-    w
-}
-
-fn grow_walls(w: Walls, n: usize) -> Walls
-    requires { w.all + n < 2 ^ 64 }
-    ensures { result ≡ grown_walls w n }
-{
-    Walls {
-        all: w.all + n,
-        cell: w.cell,
-        before: w.before,
-    }
-}
-
-// The walls alone are counted, and no option is looked up.
-pub(crate) fn walk_walls(
-    caps: Choice,
-    sides: Choice,
-    how: heightmap::Fringe,
-    goal: Goal,
-    n: usize,
-    cells: &[f32],
-    neighbours: &[u32],
-    fringe: &[f32],
-) -> Walls
+// The walls alone are counted, and no option is looked up. One walk over closures for this and `walk_faces` is no plainer:
+// each has bounds of its own for its sums.
+pub(crate) fn walk_walls(job: HeightMap, grid: Grid<'_>, goal: Goal, n: usize) -> Walk<usize>
     requires { n ≤ 65536 }
-    ensures { result ≡ walked_walls caps sides how (lent_grid cells neighbours fringe) goal n }
+    ensures { result ≡ walked_walls job.caps job.sides job.fringe (seen_grid grid.entry) goal n }
 {
-    let mut w = Walls {
+    let mut w = Walk {
         all: 0,
         cell: 0,
         before: 0,
     };
     for k in 0usize..n {
-        let m = mark_walls(caps, w, k, goal);
-        w = grow_walls(m, cell_walls(sides, how, cells, neighbours, fringe, k, 6));
+        let m = w.mark(k, caps_in(job.caps, k) + w.all, goal);
+        w = Walk {
+            all: m.all + cell_walls(job, grid, k, 6),
+            ..m
+        };
     }
     w
 }
 
 // So many cells with so many walls, all of the job's own options.
-fn own_tally(
-    job: heightmap::HeightMap,
-    k: usize,
-    walls: usize,
-    numbers: &[f32],
-    marks: &[u8],
-) -> Tally
+fn own_tally(job: HeightMap, lists: Lists<'_>, k: usize, walls: usize) -> Tally
     requires { (k ≤ 65536) × (walls ≤ 393216) }
-    ensures { result ≡ own_tally job (lists (grid [] [] []) [] [] numbers.now marks.now) k walls }
+    ensures { result ≡ own_tally job (seen lists.entry) k walls }
 {
-    let caps = job.caps;
-    let sides = job.sides;
-    let m = caps_in(caps, k);
-    let a = placement::options::option_for(caps, numbers, marks);
-    let b = placement::options::option_for(sides, numbers, marks);
-    let cap = a.inset;
-    let wall = b.inset;
+    let m = caps_in(job.caps, k);
+    let cap = placement::options::option_for(job.caps, lists.numbers, lists.marks);
+    let wall = placement::options::option_for(job.sides, lists.numbers, lists.marks);
     Tally {
         faces: m + walls,
         counts: add(
-            times(m, face::triangle::counts_of::<face::face::Hexagon>(cap)),
-            times(walls, face::triangle::counts_of::<face::face::Quad>(wall)),
+            times(
+                m,
+                face::triangle::counts_of::<face::face::Hexagon>(cap.inset),
+            ),
+            times(
+                walls,
+                face::triangle::counts_of::<face::face::Quad>(wall.inset),
+            ),
         ),
     }
 }
 
-fn walk_own(job: heightmap::HeightMap, w: Walls, n: usize, numbers: &[f32], marks: &[u8]) -> Walk
+fn walk_own(job: HeightMap, lists: Lists<'_>, w: Walk<usize>, n: usize) -> Walk<Tally>
     requires n_bound { (n ≤ 65536) × (w.all ≤ 393216) }
     requires cell_bound { (w.cell ≤ 65536) × (w.before ≤ 393216) }
-    ensures { result ≡ own_walk job (lists (grid [] [] []) [] [] numbers.now marks.now) w n }
+    ensures { result ≡ own_walk job (seen lists.entry) w n }
 {
     Walk {
-        all: own_tally(job, n, w.all, numbers, marks),
+        all: own_tally(job, lists, n, w.all),
         cell: w.cell,
-        before: own_tally(job, w.cell, w.before, numbers, marks),
+        before: own_tally(job, lists, w.cell, w.before),
     }
 }
 
 // The first n cells, and the one among them that is looked for.
-pub(crate) fn walk_cells(
-    job: heightmap::HeightMap,
-    goal: Goal,
-    n: usize,
-    cells: &[f32],
-    neighbours: &[u32],
-    fringe: &[f32],
-    customs: &[u8],
-    numbers: &[f32],
-    marks: &[u8],
-) -> Walk
+pub(crate) fn walk_cells(job: HeightMap, lists: Lists<'_>, goal: Goal, n: usize) -> Walk<Tally>
     requires { n ≤ 65536 }
-    ensures { result ≡ walked job (lent_for_counts cells neighbours fringe customs numbers marks) goal n }
+    ensures { result ≡ walked job (seen lists.entry) goal n }
 {
-    let how = job.customs;
-    let caps = job.caps;
-    let sides = job.sides;
-    let edge = job.fringe;
-    match how {
-        heightmap::Customs::Absent => {
-            let w = walk_walls(caps, sides, edge, goal, n, cells, neighbours, fringe);
-            walk_own(job, w, n, numbers, marks)
-        }
-        heightmap::Customs::Listed => walk_faces(
-            job, goal, n, cells, neighbours, fringe, customs, numbers, marks,
-        ),
+    match job.customs {
+        Customs::Absent => walk_own(job, lists, walk_walls(job, lists.grid, goal, n), n),
+        Customs::Listed => walk_faces(job, lists, goal, n),
     }
 }
 
 // How many faces a map has and what they take; nothing where it has more than 65,536 cells.
-pub fn tally_all(
-    job: heightmap::HeightMap,
-    cells: &[f32],
-    neighbours: &[u32],
-    fringe: &[f32],
-    customs: &[u8],
-    numbers: &[f32],
-    marks: &[u8],
-) -> Tally
-    ensures { result ≡ tally_of job (lent_for_counts cells neighbours fringe customs numbers marks) }
+pub fn tally_all(job: HeightMap, lists: Lists<'_>) -> Tally
+    ensures { result ≡ tally_of job (seen lists.entry) }
 {
-    let n = heightmap::grid::cells_in(cells);
+    let n = lists.grid.cell_count();
     if answer::check::is_cell_count(n) {
-        let w = walk_cells(
-            job,
-            Goal::Cell(0), // no matter which: all is asked for
-            n,
-            cells,
-            neighbours,
-            fringe,
-            customs,
-            numbers,
-            marks,
-        );
-        return w.all;
+        let any = Goal::Cell(0); // no matter which: all is asked for
+        return walk_cells(job, lists, any, n).all;
     }
-    nothing()
+    Tally::default()
 }
 
 // Where the faces of a cell start; past the last cell caps go on being counted, and above 65,536 nothing is.
-pub fn cell_start(
-    job: heightmap::HeightMap,
-    k: usize,
-    cells: &[f32],
-    neighbours: &[u32],
-    fringe: &[f32],
-    customs: &[u8],
-    numbers: &[f32],
-    marks: &[u8],
-) -> Counts
-    ensures { result ≡ cond (cell_count k) (cell_start job (lent_for_counts cells neighbours fringe customs numbers marks) k) none }
+pub fn cell_start(job: HeightMap, lists: Lists<'_>, k: usize) -> Counts
+    ensures { result ≡ cond (cell_count k) (cell_start job (seen lists.entry) k) none }
 {
     if answer::check::is_cell_count(k) {
-        let w = walk_cells(
-            job,
-            Goal::Cell(0), // no matter which
-            k,
-            cells,
-            neighbours,
-            fringe,
-            customs,
-            numbers,
-            marks,
-        );
-        let all = w.all;
-        return all.counts;
+        let any = Goal::Cell(0); // no matter which
+        return walk_cells(job, lists, any, k).all.counts;
     }
-    zero()
+    Counts::default()
 }

@@ -3,14 +3,14 @@
 #![tactic(auto)]
 
 ghost use Rattle.std.specs.Prelude.{◌≡◌, cond, ltb};
-ghost use Rattle.heightmap.specs.HeightMap.{lent};
+ghost use Rattle.heightmap.specs.HeightMap.{seen};
 ghost use Rattle.heightmap_plan.specs.Finding.{cell_of};
 ghost use Rattle.heightmap_why.specs.Why.{reason_by, reason_code, reason_height, reason_face, kind_code, side_told};
 ghost use Rattle.heightmap_why.specs.Why.{side_tested, why_told, which_told};
 
 use answer::answer::{Answer, Refusal};
 use face::triangle::Counts;
-use heightmap::{HeightMap, Name, Wall};
+use heightmap::{HeightMap, Lists, Name, Wall};
 
 // Sides are off; there is no neighbour and no fringe height; the neighbour or the fringe is as high or higher, with that
 // height; the wall is there, with its face number. They are tested in this order.
@@ -116,90 +116,30 @@ fn side_in(side: usize) -> u8
 }
 
 // The tests of 1 to 4, of the cell and of the side, once the faces are counted.
-fn test_side(
-    job: HeightMap,
-    counts: Counts,
-    cells: &[f32],
-    neighbours: &[u32],
-    fringe: &[f32],
-    customs: &[u8],
-    corners: &[f32],
-    numbers: &[f32],
-    marks: &[u8],
-    cell: usize,
-    side: usize,
-) -> Answer
-    ensures { result ≡ side_tested job (lent cells neighbours fringe customs corners numbers marks) counts cell side }
+fn test_side(job: HeightMap, counts: Counts, lists: Lists<'_>, cell: usize, side: usize) -> Answer
+    ensures { result ≡ side_tested job (seen lists.entry) counts cell side }
 {
-    let planned = heightmap_plan::check(
-        job,
-        answer::answer::limit(counts),
-        cells,
-        neighbours,
-        fringe,
-        customs,
-        corners,
-        numbers,
-        marks,
-    );
-    let n = heightmap::grid::cells_in(cells);
+    let planned = heightmap_plan::check(job, answer::answer::limit(counts), lists);
+    let n = lists.grid.cell_count();
     answer::answer::name(answer::answer::name(planned, cell, n), side, 6)
 }
 
 // Why a side of a cell is there or is not, with the plan's counts.
-pub fn why(
-    job: HeightMap,
-    cells: &[f32],
-    neighbours: &[u32],
-    fringe: &[f32],
-    customs: &[u8],
-    corners: &[f32],
-    numbers: &[f32],
-    marks: &[u8],
-    cell: usize,
-    side: usize,
-) -> WhyAnswer
-    ensures { result ≡ why_told job (lent cells neighbours fringe customs corners numbers marks) cell side }
+pub fn why(job: HeightMap, lists: Lists<'_>, cell: usize, side: usize) -> WhyAnswer
+    ensures { result ≡ why_told job (seen lists.entry) cell side }
 {
     let d = side_in(side);
-    let sides = job.sides;
-    let placed = heightmap_plan::names::survey_side(
-        job, cell, d, cells, neighbours, fringe, customs, numbers, marks,
-    );
-    let counts = test_side(
-        job,
-        placed.all.counts,
-        cells,
-        neighbours,
-        fringe,
-        customs,
-        corners,
-        numbers,
-        marks,
-        cell,
-        side,
-    )?;
-    let wall = heightmap::grid::wall_at(sides, job.fringe, cells, neighbours, fringe, cell, d);
+    let placed = heightmap_plan::names::survey_side(job, lists, cell, d);
+    let counts = test_side(job, placed.all.counts, lists, cell, side)?;
+    let wall = lists.grid.wall_at(job.sides, job.fringe, cell, d);
     Ok((counts, reason_by(wall, placed.number)))
 }
 
 // The face of a number, with the plan's counts.
-pub fn which(
-    job: HeightMap,
-    cells: &[f32],
-    neighbours: &[u32],
-    fringe: &[f32],
-    customs: &[u8],
-    corners: &[f32],
-    numbers: &[f32],
-    marks: &[u8],
-    number: usize,
-) -> WhichAnswer
-    ensures { result ≡ which_told job (lent cells neighbours fringe customs corners numbers marks) number }
+pub fn which(job: HeightMap, lists: Lists<'_>, number: usize) -> WhichAnswer
+    ensures { result ≡ which_told job (seen lists.entry) number }
 {
-    let s = heightmap_plan::window::seek(
-        job, number, cells, neighbours, fringe, customs, corners, numbers, marks,
-    );
+    let s = heightmap_plan::window::seek(job, lists, number);
     let counts = s.answer?;
     Ok((counts, s.found.name))
 }

@@ -13,13 +13,14 @@ use types.Logic.{Logic}
 use contract.Lifetimes.{Lfts}
 use contract.Monad.{Fun}
 use denote.Param.{number}
-use denote.Param.Laws.{Laws}
+use denote.Param.Laws.{Laws, IsCopy}
 use denote.RattleType.{RattleType}
 use denote.Triple.Entry.{Args}
 use denote.Triple.Clauses.{Lasts}
 use denote.MutBor.{MutBor}
 use mir.Syntax.{Dict, w64}
 use mir.Val.{Fits}
+use Rattle.std.specs.declared.clone.Clone.{Ghosts as Clone}
 use Rattle.face.specs.declared.triangle.Shape.{Ghosts as Shape}
 use Rattle.boundary.specs.ToC.{answer_to_c}
 use Rattle.cells.specs.declared.Cell.{Cell}
@@ -545,37 +546,41 @@ pub column-builder-face : Fixes column_builder.specs.contracts.face.ended column
 column-builder-face κs a x y v w p q = let e = determined p.1 q.1 in (determined p.0 q.0, λ i. (tt, (tt, (tt, (tt, (tt, (tt, ((e i).vertices, ((e i).normals, ((e i).uvs, ((e i).indices, tt)))))))))))
 
 -- ---- heightmap
-pub heightmap-grid-cells-in : Fixes heightmap.specs.contracts.grid.cells_in.ended heightmap.proofs.grid.cells_in.Reads.Learnt
-heightmap-grid-cells-in κs a x y v w p q = (determined p q, refl)
+pub heightmap-grid-element-or : (T : RattleType) (l : Laws T) (c : IsCopy T) (s : Clone T.Denot) (d : Dict)
+    → Fixes (heightmap.specs.contracts.grid.element_or.ended T s d) (heightmap.proofs.grid.element_or.Reads.Learnt T l c s d)
+heightmap-grid-element-or T l c s d κs a x y v w p q = (determined p q, refl)
 
-pub heightmap-grid-height-at : Fixes heightmap.specs.contracts.grid.height_at.ended heightmap.proofs.grid.height_at.Reads.Learnt
+pub heightmap-grid-cell-count : Fixes heightmap.specs.contracts.grid.Grid.cell_count.ended heightmap.proofs.grid.Grid.cell_count.Reads.Learnt
+heightmap-grid-cell-count κs a x y v w p q = (determined p q, refl)
+
+pub heightmap-grid-height-at : Fixes heightmap.specs.contracts.grid.Grid.height_at.ended heightmap.proofs.grid.Grid.height_at.Reads.Learnt
 heightmap-grid-height-at κs a x y v w p q = (determined p q, refl)
 
-pub heightmap-grid-position-at : Fixes heightmap.specs.contracts.grid.position_at.ended heightmap.proofs.grid.position_at.Reads.Learnt
+pub heightmap-grid-position-at : Fixes heightmap.specs.contracts.grid.Grid.position_at.ended heightmap.proofs.grid.Grid.position_at.Reads.Learnt
 heightmap-grid-position-at κs a x y v w p q = (determined p q, refl)
 
-pub heightmap-grid-left-at : Fixes heightmap.specs.contracts.grid.left_at.ended heightmap.proofs.grid.left_at.Reads.Learnt
+pub heightmap-grid-left-at : Fixes heightmap.specs.contracts.grid.Grid.left_at.ended heightmap.proofs.grid.Grid.left_at.Reads.Learnt
 heightmap-grid-left-at κs a x y v w p q = (determined p q, refl)
 
-pub heightmap-grid-right-at : Fixes heightmap.specs.contracts.grid.right_at.ended heightmap.proofs.grid.right_at.Reads.Learnt
+pub heightmap-grid-right-at : Fixes heightmap.specs.contracts.grid.Grid.right_at.ended heightmap.proofs.grid.Grid.right_at.Reads.Learnt
 heightmap-grid-right-at κs a x y v w p q = (determined p q, refl)
 
-pub heightmap-grid-neighbour-at : Fixes heightmap.specs.contracts.grid.neighbour_at.ended heightmap.proofs.grid.neighbour_at.Reads.Learnt
+pub heightmap-grid-neighbour-at : Fixes heightmap.specs.contracts.grid.Grid.neighbour_at.ended heightmap.proofs.grid.Grid.neighbour_at.Reads.Learnt
 heightmap-grid-neighbour-at κs a x y v w p q = (determined p q, refl)
 
-pub heightmap-grid-fringe-at : Fixes heightmap.specs.contracts.grid.fringe_at.ended heightmap.proofs.grid.fringe_at.Reads.Learnt
+pub heightmap-grid-fringe-at : Fixes heightmap.specs.contracts.grid.Grid.fringe_at.ended heightmap.proofs.grid.Grid.fringe_at.Reads.Learnt
 heightmap-grid-fringe-at κs a x y v w p q = (determined p q, refl)
 
-pub heightmap-grid-wall-at : Fixes heightmap.specs.contracts.grid.wall_at.ended heightmap.proofs.grid.wall_at.Reads.Learnt
+pub heightmap-grid-wall-at : Fixes heightmap.specs.contracts.grid.Grid.wall_at.ended heightmap.proofs.grid.Grid.wall_at.Reads.Learnt
 heightmap-grid-wall-at κs a x y v w p q = (determined p q, refl)
 
-pub heightmap-grid-is-present : Fixes heightmap.specs.contracts.grid.is_present.ended heightmap.proofs.grid.is_present.Reads.Learnt
-heightmap-grid-is-present κs a x y v w p q = (determined p q, refl)
+pub heightmap-wall-is-present : Fixes heightmap.specs.contracts.Wall.is_present.ended heightmap.proofs.Wall.is_present.Reads.Learnt
+heightmap-wall-is-present κs a x y v w p q = (determined p q, refl)
 
-pub heightmap-grid-foot-of : Fixes heightmap.specs.contracts.grid.foot_of.ended heightmap.proofs.grid.foot_of.Reads.Learnt
-heightmap-grid-foot-of κs a x y v w p q = (determined p q, refl)
+pub heightmap-wall-foot : Fixes heightmap.specs.contracts.Wall.foot.ended heightmap.proofs.Wall.foot.Reads.Learnt
+heightmap-wall-foot κs a x y v w p q = (determined p q, refl)
 
-pub heightmap-grid-span-of : Fixes heightmap.specs.contracts.grid.span_of.ended heightmap.proofs.grid.span_of.Reads.Learnt
+pub heightmap-grid-span-of : Fixes heightmap.specs.contracts.grid.Grid.span_of.ended heightmap.proofs.grid.Grid.span_of.Reads.Learnt
 heightmap-grid-span-of κs a x y v w p q = (determined p q, refl)
 
 pub heightmap-options-choice-of : Fixes heightmap.specs.contracts.options.choice_of.ended heightmap.proofs.options.choice_of.Reads.Learnt
@@ -595,10 +600,10 @@ pub heightmap-builder-plan : Fixes heightmap_builder.specs.contracts.plan.ended 
 heightmap-builder-plan κs a x y v w p q = (determined p q, refl)
 
 pub heightmap-builder-build : Fixes heightmap_builder.specs.contracts.build.ended heightmap_builder.proofs.build.Reads.Learnt
-heightmap-builder-build κs a x y v w p q = let e = determined p.1 q.1 in (determined p.0 q.0, λ i. (tt, (tt, (tt, (tt, (tt, (tt, (tt, (tt, ((e i).vertices, ((e i).normals, ((e i).uvs, ((e i).indices, tt)))))))))))))
+heightmap-builder-build κs a x y v w p q = let e = determined p.1 q.1 in (determined p.0 q.0, λ i. (tt, (tt, ((e i).vertices, ((e i).normals, ((e i).uvs, ((e i).indices, tt)))))))
 
 pub heightmap-builder-face : Fixes heightmap_builder.specs.contracts.face.ended heightmap_builder.proofs.face.Reads.Learnt
-heightmap-builder-face κs a x y v w p q = let e = determined p.1 q.1 in (determined p.0 q.0, λ i. (tt, (tt, (tt, (tt, (tt, (tt, (tt, (tt, (tt, ((e i).vertices, ((e i).normals, ((e i).uvs, ((e i).indices, tt))))))))))))))
+heightmap-builder-face κs a x y v w p q = let e = determined p.1 q.1 in (determined p.0 q.0, λ i. (tt, (tt, (tt, ((e i).vertices, ((e i).normals, ((e i).uvs, ((e i).indices, tt))))))))
 
 -- ---- heightmap_faces
 pub heightmap-faces-kept-number-of : Fixes heightmap_faces.specs.contracts.kept.number_of.ended heightmap_faces.proofs.kept.number_of.Reads.Learnt
@@ -639,10 +644,10 @@ heightmap-faces-kept-keep-top κs a x y v w p q = (determined p q, refl)
 
 -- ---- heightmap_laying
 pub heightmap-laying-put-all : Fixes heightmap_laying.specs.contracts.put_all.ended heightmap_laying.proofs.put_all.Reads.Learnt
-heightmap-laying-put-all κs a x y v w p q = let e = determined p q in (refl, λ i. (tt, (tt, (tt, (tt, (tt, (tt, (tt, (tt, ((e i).vertices, ((e i).normals, ((e i).uvs, ((e i).indices, tt)))))))))))))
+heightmap-laying-put-all κs a x y v w p q = let e = determined p q in (refl, λ i. (tt, (tt, ((e i).vertices, ((e i).normals, ((e i).uvs, ((e i).indices, tt)))))))
 
 pub heightmap-laying-put-named : Fixes heightmap_laying.specs.contracts.put_named.ended heightmap_laying.proofs.put_named.Reads.Learnt
-heightmap-laying-put-named κs a x y v w p q = let e = determined p q in (refl, λ i. (tt, (tt, (tt, (tt, (tt, (tt, (tt, (tt, (tt, (tt, ((e i).vertices, ((e i).normals, ((e i).uvs, ((e i).indices, tt)))))))))))))))
+heightmap-laying-put-named κs a x y v w p q = let e = determined p q in (refl, λ i. (tt, (tt, (tt, (tt, ((e i).vertices, ((e i).normals, ((e i).uvs, ((e i).indices, tt)))))))))
 
 -- ---- heightmap_plan
 pub heightmap-plan-check : Fixes heightmap_plan.specs.contracts.check.ended heightmap_plan.proofs.check.Reads.Learnt

@@ -1,6 +1,7 @@
 // A height map: its lists, its numbers, and its calls.
 use answer::answer::Answer;
 use face::vec::Vec2;
+use heightmap::grid::Grid;
 use heightmap::{Customs, Fringe, HeightMap, HeightRange, Origin};
 use placement::options::Choice;
 use placement::placement::Placement;
@@ -130,30 +131,31 @@ impl Map {
     }
 }
 
+impl Map {
+    fn lent(&self) -> heightmap::Lists<'_> {
+        heightmap::Lists {
+            grid: Grid {
+                cells: &self.cells,
+                neighbours: &self.neighbours,
+                fringe: &self.fringe,
+            },
+            customs: &self.customs,
+            corners: &self.corners,
+            numbers: &self.numbers,
+            marks: &self.marks,
+        }
+    }
+}
+
 impl Job for Map {
     fn plan(&self) -> Answer {
-        heightmap_builder::plan(
-            self.map,
-            &self.cells,
-            &self.neighbours,
-            &self.fringe,
-            &self.customs,
-            &self.corners,
-            &self.numbers,
-            &self.marks,
-        )
+        heightmap_builder::plan(self.map, self.lent())
     }
 
     fn build(&self, to: &mut Lists) -> Answer {
         heightmap_builder::build(
             self.map,
-            &self.cells,
-            &self.neighbours,
-            &self.fringe,
-            &self.customs,
-            &self.corners,
-            &self.numbers,
-            &self.marks,
+            self.lent(),
             &mut to.vertices,
             &mut to.normals,
             &mut to.uvs,
@@ -164,13 +166,7 @@ impl Job for Map {
     fn face(&self, number: usize, to: &mut Lists) -> Answer {
         heightmap_builder::face(
             self.map,
-            &self.cells,
-            &self.neighbours,
-            &self.fringe,
-            &self.customs,
-            &self.corners,
-            &self.numbers,
-            &self.marks,
+            self.lent(),
             number,
             &mut to.vertices,
             &mut to.normals,

@@ -7,11 +7,6 @@ use Rattle.heightmap_laying.specs.Shared.{top_mesh, top_faces}
 use Rattle.heightmap_laying.proofs.Steps.{no_step, one-step, top-size, hexagon-small}
 use Rattle.heightmap_laying.proofs.put_cap_if.Goals as goal
 
-pub add-requires : goal.add-requires
-add-requires c = let a = c.args in
-    let m = hexagon-small a.top.inset in
-    rw c.counts_of.ensures (omega (arith, m.0, c.requires.0), omega (arith, m.1, c.requires.1))
-
 pub returns-in-Absent : goal.returns-in-Absent
 returns-in-Absent c = let a = c.args in
     let s = no_step (top_faces a.caps a.t a.top) a.at (four a.vertices.now a.normals.now a.uvs.now a.indices.now) (ap (λ (x : Choice). top_faces x a.t a.top) c.in-Absent.is) in record { place = s.0; small = (omega arith, omega arith); buffers = s.1 }

@@ -14,6 +14,3 @@ returns-then-is_none c = let a = c.args in
     c.lay_plain_quad.ensures
     ∙ ap (λ (f : Plain). laid_if_fits (plain_mesh 4 f) a.at B) (c.stand_quad-f.ensures ∙ ap (stood_quad a.t) c.wall_quad-q.ensures)
     ∙ ap (λ (m : Mesh). laid_if_fits m a.at B) (plain-wall a.t a.v.skin.inset (level_quad a.v a.left a.right a.foot) (sym c.is_none.ensures ∙ c.if-is_none.true))
-
-pub returns-else-is_none : goal.returns-else-is_none
-returns-else-is_none c = rw c.wall_quad-q-else-is_none.ensures at c.lay_wall.ensures

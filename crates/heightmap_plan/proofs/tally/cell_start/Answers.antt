@@ -1,19 +1,10 @@
 -- `cell_start`: the walk over the cells before it. Assumes nothing.
 use mathlib.Core.Path.{sym, ap, ◌∙◌}
-use mathlib.Core.List.{[]}
-use borrow.Author.Tests.{leb-true}
 use Rattle.heightmap_plan.specs.declared.tally.Tally.{Tally}
 use Rattle.heightmap_plan.specs.declared.tally.Goal.TheVariants.{Cell}
-use Rattle.heightmap.specs.Grid.{grid}
-use Rattle.heightmap.specs.HeightMap.{lists}
+use Rattle.heightmap.specs.HeightMap.{seen}
 use Rattle.heightmap_plan.proofs.Walking.{walk-counted}
 use Rattle.heightmap_plan.proofs.tally.cell_start.Goals as goal
 
-pub walk_cells-w-requires : goal.walk_cells-w-requires
-walk_cells-w-requires c = leb-true _ _ (sym c.is_cell_count.ensures ∙ c.if-is_cell_count.true)
-
 pub returns-then-is_cell_count : goal.returns-then-is_cell_count
-returns-then-is_cell_count c = let a = c.args in let ls = lists (grid a.cells.now a.neighbours.now a.fringe.now) a.customs.now [] a.numbers.now a.marks.now in rw (sym c.is_cell_count.ensures ∙ c.if-is_cell_count.true) (ap (λ (t : Tally). t.counts) (walk-counted a.job ls (Cell 0) a.k _ c.walk_cells-w.ensures))
-
-pub returns : goal.returns
-returns c = rw (sym c.is_cell_count.ensures ∙ c.if-is_cell_count.false) c.zero.ensures
+returns-then-is_cell_count c = let a = c.args in let ls = seen a.lists in rw (sym c.is_cell_count.ensures ∙ c.if-is_cell_count.true) (ap (λ (t : Tally). t.counts) (walk-counted a.job ls (Cell 0) a.k _ c.walk_cells.ensures))

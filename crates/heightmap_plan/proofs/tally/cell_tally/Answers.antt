@@ -1,25 +1,15 @@
-use borrow.Author.Rules.{rules}
 use mathlib.Core.Path.{◌≡◌, ap, ap₂, ◌∙◌}
-use mathlib.Core.List.{[]}
-use native.Mathlib.Numerals.{add-one}
 use native.Mathlib.Omega.{arith}
-use Rattle.heightmap.specs.Grid.{grid}
-use Rattle.heightmap.specs.HeightMap.{lists}
+use Rattle.heightmap.specs.HeightMap.{seen}
 use Rattle.heightmap_plan.specs.Walking.{both, sides_tally}
-use Rattle.heightmap_plan.proofs.Walking.{side-small, sides-small, cap-small, sides-more, cell-whole}
+use Rattle.heightmap_plan.proofs.Walking.{side-small, sides-small, cap-small, cell-whole}
 use Rattle.heightmap_plan.proofs.tally.cell_tally.Goals as goal
 
-pub loop-d-init : goal.loop-d-init
-loop-d-init c = (omega arith, c.nothing-t.ensures)
-
 pub join-t-requires : goal.join-t-requires
-join-t-requires c = let a = c.args in let ls = lists (grid a.cells.now a.neighbours.now a.fringe.now) a.customs.now [] a.numbers.now a.marks.now in let i = c.loop-d in let s = sides-small a.job ls a.k i.d in let q = side-small a.job ls a.k i.d in record { faces_bound = rw (i.invariant.1, c.side_tally-side.ensures) (omega arith); vertices_bound = rw (i.invariant.1, c.side_tally-side.ensures) (omega arith); indices_bound = rw (i.invariant.1, c.side_tally-side.ensures) (omega arith) }
-
-pub loop-d-preserved : goal.loop-d-preserved
-loop-d-preserved c = let a = c.args in let ls = lists (grid a.cells.now a.neighbours.now a.fringe.now) a.customs.now [] a.numbers.now a.marks.now in let i = c.loop-d in (search rules, c.join-t.ensures ∙ ap₂ both i.invariant.1 c.side_tally-side.ensures ∙ rw (add-one i.d) (sides-more a.job ls a.k i.d))
+join-t-requires c = let a = c.args in let ls = seen a.lists in let i = c.loop-d in let s = sides-small a.job ls a.k i.d in let q = side-small a.job ls a.k i.d in record { faces_bound = rw (i.invariant.1, c.side_tally.ensures) (omega arith); vertices_bound = rw (i.invariant.1, c.side_tally.ensures) (omega arith); indices_bound = rw (i.invariant.1, c.side_tally.ensures) (omega arith) }
 
 pub join-requires : goal.join-requires
-join-requires c = let a = c.args in let ls = lists (grid a.cells.now a.neighbours.now a.fringe.now) a.customs.now [] a.numbers.now a.marks.now in let i = c.loop-d in let s = sides-small a.job ls a.k i.d in let q = cap-small a.job ls a.k in record { faces_bound = rw (i.invariant.1, c.cap_tally.ensures) (omega arith); vertices_bound = rw (i.invariant.1, c.cap_tally.ensures) (omega arith); indices_bound = rw (i.invariant.1, c.cap_tally.ensures) (omega arith) }
+join-requires c = let a = c.args in let ls = seen a.lists in let i = c.loop-d in let s = sides-small a.job ls a.k i.d in let q = cap-small a.job ls a.k in record { faces_bound = rw (i.invariant.1, c.cap_tally.ensures) (omega arith); vertices_bound = rw (i.invariant.1, c.cap_tally.ensures) (omega arith); indices_bound = rw (i.invariant.1, c.cap_tally.ensures) (omega arith) }
 
 pub returns : goal.returns
-returns c = let a = c.args in let ls = lists (grid a.cells.now a.neighbours.now a.fringe.now) a.customs.now [] a.numbers.now a.marks.now in let i = c.loop-d in let e : i.d ≡ 6 = omega arith in c.join.ensures ∙ ap₂ both c.cap_tally.ensures (i.invariant.1 ∙ ap (sides_tally a.job ls a.k) e) ∙ cell-whole a.job ls a.k
+returns c = let a = c.args in let ls = seen a.lists in let i = c.loop-d in let e : i.d ≡ 6 = omega arith in c.join.ensures ∙ ap₂ both c.cap_tally.ensures (i.invariant.1 ∙ ap (sides_tally a.job ls a.k) e) ∙ cell-whole a.job ls a.k

@@ -3,17 +3,5 @@ use native.Mathlib.Omega.{arith}
 use Rattle.heightmap_plan.proofs.Walking.{quad-few, hexagon-few, many-few, caps-most}
 use Rattle.heightmap_plan.proofs.tally.own_tally.Goals as goal
 
-pub overflow_add-result : goal.overflow_add-result
-overflow_add-result c = omega (arith, c.caps_in-m.ensures, caps-most c.args.job.caps c.args.k, c.requires.0)
-
-pub times-requires : goal.times-requires
-times-requires c = rw c.counts_of.ensures (omega (arith, c.caps_in-m.ensures, caps-most c.args.job.caps c.args.k, c.requires.0), hexagon-few c.option_for-a.result.inset)
-
-pub times-requires-2 : goal.times-requires-2
-times-requires-2 c = rw c.counts_of-2.ensures (omega arith, quad-few c.option_for-b.result.inset)
-
 pub add-requires : goal.add-requires
-add-requires c = let p = many-few c.caps_in-m.result _ (omega (arith, c.caps_in-m.ensures, caps-most c.args.job.caps c.args.k, c.requires.0)) (hexagon-few c.option_for-a.result.inset) in let q = many-few c.args.walls _ c.requires.1 (quad-few c.option_for-b.result.inset) in rw (c.times-2.ensures, c.counts_of-2.ensures, c.times.ensures, c.counts_of.ensures) (omega (arith, p.0, q.0), omega (arith, p.1, q.1))
-
-pub returns : goal.returns
-returns c = rw (c.add.ensures, c.times-2.ensures, c.counts_of-2.ensures, c.times.ensures, c.counts_of.ensures, c.option_for-b.ensures, c.option_for-a.ensures, c.caps_in-m.ensures)
+add-requires c = let p = many-few c.caps_in-m.result _ (omega (arith, c.caps_in-m.ensures, caps-most c.args.job.caps c.args.k, c.requires.0)) (hexagon-few c.option_for-cap.result.inset) in let q = many-few c.args.walls _ c.requires.1 (quad-few c.option_for-wall.result.inset) in rw (c.times-2.ensures, c.counts_of-2.ensures, c.times.ensures, c.counts_of.ensures) (omega (arith, p.0, q.0), omega (arith, p.1, q.1))

@@ -1,8 +1,0 @@
--- `higher_of`: the later one only where it is higher. Assumes nothing.
-use Rattle.heightmap.proofs.grid.higher_of.Goals as goal
-
-pub returns-then-a-b : goal.returns-then-a-b
-returns-then-a-b c = rw c.if-a-b.true
-
-pub returns : goal.returns
-returns c = rw c.if-a-b.false
