@@ -123,6 +123,7 @@ pub fn hosirekar_heightmap_build(
     ensures buffers { Become (map_built job (lent cells neighbours fringe customs corners numbers marks)) vertices normals uvs indices }
 {
     let lists = lists_of(cells, neighbours, fringe, customs, corners, numbers, marks);
+    // A match: with the buffers in a closure the promise of them does not close.
     match HeightMap::try_from(job) {
         Ok(job) => CAnswer::from(heightmap_builder::build(
             job, lists, vertices, normals, uvs, indices,
