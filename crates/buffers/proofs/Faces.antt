@@ -110,6 +110,25 @@ pub hexagon-size : (how : Inset) (h : InsetHexagon) → size_of (hexagon_mesh ho
 unfolding hexagon_mesh
 hexagon-size how h = inset-size how 6 4 hexagon_triangles refl h.positions h.normal h.uvs
 
+module _ (t : Stand) (how : Inset) (at : Counts) (B : Buffers) where
+  pub quad-laid : (q : InsetQuad) → lay (standing t (quad_mesh how q)) at B
+      ≡ four
+      (laid B.vertices (3 * at.vertices.0) (chain (λ j. three (stood t (get_or q.positions j off3))) (inset_counts how 4 2).vertices.0))
+      (laid B.normals (3 * at.vertices.0) (chain (λ j. three (stood_normal t q.normal)) (inset_counts how 4 2).vertices.0))
+      (laid B.uvs (2 * at.vertices.0) (chain (λ j. two (get_or q.uvs j off2)) (inset_counts how 4 2).vertices.0))
+      (laid B.indices at.indices.0 (chain (λ j. corners at.vertices.0 (get_or (inset_triangles how 4 quad_triangles) j no_triangle)) ((inset_counts how 4 2).indices.0 / 3)))
+  unfolding quad_mesh
+  quad-laid q = inset-laid how 4 2 quad_triangles refl t q.positions q.normal q.uvs at B
+
+  pub hexagon-laid : (h : InsetHexagon) → lay (standing t (hexagon_mesh how h)) at B
+      ≡ four
+      (laid B.vertices (3 * at.vertices.0) (chain (λ j. three (stood t (get_or h.positions j off3))) (inset_counts how 6 4).vertices.0))
+      (laid B.normals (3 * at.vertices.0) (chain (λ j. three (stood_normal t h.normal)) (inset_counts how 6 4).vertices.0))
+      (laid B.uvs (2 * at.vertices.0) (chain (λ j. two (get_or h.uvs j off2)) (inset_counts how 6 4).vertices.0))
+      (laid B.indices at.indices.0 (chain (λ j. corners at.vertices.0 (get_or (inset_triangles how 6 hexagon_triangles) j no_triangle)) ((inset_counts how 6 4).indices.0 / 3)))
+  unfolding hexagon_mesh
+  hexagon-laid h = inset-laid how 6 4 hexagon_triangles refl t h.positions h.normal h.uvs at B
+
 -- ---- what the test of room gives the writers, in the words of their size
 pub record Written (how : Inset) (m n : ℕ) (tris : List Triangle) (at size : Counts) (B : Buffers) : Type 0 where
   pub few : size.vertices.0 ≤ 2 * m

@@ -2,7 +2,7 @@
 use mathlib.Core.Path.{◌≡◌, refl, sym, ap, ap₂, ◌∙◌}
 use mathlib.Core.Bool.{true, false}
 use mathlib.Core.List.{List, [], ◌∷◌, ◌++◌, map, map-id}
-use Prim.Native.Nat.{ℕ, zero, suc}
+use Prim.Native.Nat.{ℕ, zero, suc, ◌*◌}
 use native.Mathlib.Omega.{arith}
 use lib.ListN.{length, get_or}
 use Rattle.face.specs.declared.vec.Vec3.{Vec3}
@@ -10,15 +10,20 @@ use Rattle.face.specs.declared.face.Quad.{Quad}
 use Rattle.face.specs.declared.inset.Inset.{Inset}
 use Rattle.face.specs.declared.inset.Inset.TheVariants.{None, Centroid, SmallestEdge}
 use Rattle.face.specs.declared.inset.InsetHexagon.{InsetHexagon}
-use Rattle.face.specs.Lists.{each}
+use Rattle.face.specs.declared.triangle.Counts.{Counts}
+use Rattle.face.specs.Lists.{each, chain}
 use Rattle.face.specs.Vec.{off2, off3}
 use Rattle.face.specs.Inset.{is_none}
+use Rattle.face.specs.Triangles.{no_triangle}
 use Rattle.placement.specs.declared.placement.Stand.{Stand}
 use Rattle.placement.specs.Placing.{stood}
 use Rattle.placement.specs.Speed.{shifts_alone, shift_of}
 use Rattle.placement.proofs.Shifts.{shift-stands, shift-normal}
-use Rattle.buffers.specs.Faces.{quad_mesh, hexagon_mesh, standing, wall_mesh}
-use Rattle.buffers.specs.Plain.{six_of, points_by, shifted_quad, stood_quad, stood_hexagon, plain_mesh}
+use Rattle.buffers.specs.declared.plain.Plain.{Plain}
+use Rattle.buffers.specs.Laying.{Buffers, four, three, two, corners, laid, lay}
+use Rattle.buffers.specs.Faces.{vertex_at, quad_mesh, hexagon_mesh, standing, wall_mesh}
+use Rattle.buffers.specs.Plain.{six_of, points_by, shifted_quad, stood_quad, stood_hexagon, plain_triangles, plain_mesh}
+use Rattle.buffers.proofs.Faces.{vertices-laid}
 
 -- ---- it is the face
 pub plain-wall : (t : Stand) (how : Inset) (q : Quad) → is_none how ≡ true → plain_mesh 4 (stood_quad t q) ≡ wall_mesh t how q
@@ -50,6 +55,14 @@ quad-shifted t e q =
     ap₂ (λ (ps : List Vec3) (n : Vec3). record { positions = ps; normal = n; uvs = each (λ k. get_or (q.uvs ++ q.uvs) k off2) 6 })
     (points-shifted t e (q.positions ++ q.positions))
     (shift-normal t e q.normal)
+
+pub plain-laid : (m n : ℕ) → length (plain_triangles m) ≡ n → (f : Plain) (at : Counts) (B : Buffers) → lay (plain_mesh m f) at B
+    ≡ four
+    (laid B.vertices (3 * at.vertices.0) (chain (λ j. three (get_or f.positions j off3)) m))
+    (laid B.normals (3 * at.vertices.0) (chain (λ j. three f.normal) m))
+    (laid B.uvs (2 * at.vertices.0) (chain (λ j. two (get_or f.uvs j off2)) m))
+    (laid B.indices at.indices.0 (chain (λ j. corners at.vertices.0 (get_or (plain_triangles m) j no_triangle)) n))
+plain-laid m n l f at B = vertices-laid (vertex_at f.positions f.normal f.uvs) m (plain_triangles m) n l at B
 
 -- ---- the six of four are the four, then two of them again
 pub six-of-four : {A B : Type 0} (f : A → B) (l : List A) (z : A) (y : B) → length l ≡ 4 → six_of y (map f l) ≡ each (λ k. f (get_or (l ++ l) k z)) 6
