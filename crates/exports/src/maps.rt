@@ -26,7 +26,11 @@ pub fn hosirekar_heightmap_plan(
     ensures { result ≡ answer_to_c (map_planned job (lent cells neighbours fringe customs corners numbers marks)) }
 {
     let lists = lists_of(cells, neighbours, fringe, customs, corners, numbers, marks);
-    CAnswer::from(HeightMap::try_from(job).and_then(|job| heightmap_builder::plan(job, lists)))
+    // A match, here and below: with the lists or the buffers in a closure of `and_then` the promise does not close.
+    match HeightMap::try_from(job) {
+        Ok(job) => CAnswer::from(heightmap_builder::plan(job, lists)),
+        Err(why) => CAnswer::from(Err(why)),
+    }
 }
 
 // How many faces the job has, or why it is refused.
@@ -43,7 +47,10 @@ pub fn hosirekar_heightmap_faces(
     ensures { result ≡ faces_to_c (map_faces_told job (lent cells neighbours fringe customs corners numbers marks)) }
 {
     let lists = lists_of(cells, neighbours, fringe, customs, corners, numbers, marks);
-    CFaces::from(HeightMap::try_from(job).and_then(|job| heightmap_plan::window::faces(job, lists)))
+    match HeightMap::try_from(job) {
+        Ok(job) => CFaces::from(heightmap_plan::window::faces(job, lists)),
+        Err(why) => CFaces::from(Err(why)),
+    }
 }
 
 // The places of one face of the job, by its number, or why there are none.
@@ -61,9 +68,10 @@ pub fn hosirekar_heightmap_window(
     ensures { result ≡ window_to_c (map_window_told job (lent cells neighbours fringe customs corners numbers marks) number) }
 {
     let lists = lists_of(cells, neighbours, fringe, customs, corners, numbers, marks);
-    CWindow::from(HeightMap::try_from(job).and_then(|job| heightmap_plan::window::window(
-        job, lists, number,
-    )))
+    match HeightMap::try_from(job) {
+        Ok(job) => CWindow::from(heightmap_plan::window::window(job, lists, number)),
+        Err(why) => CWindow::from(Err(why)),
+    }
 }
 
 // Why a side of a cell is there or is not: 1 sides are off, 2 no neighbour and no fringe height, 3 the neighbour or the
@@ -83,7 +91,10 @@ pub fn hosirekar_heightmap_why(
     ensures { result ≡ why_to_c (map_why_told job (lent cells neighbours fringe customs corners numbers marks) cell side) }
 {
     let lists = lists_of(cells, neighbours, fringe, customs, corners, numbers, marks);
-    CWhy::from(HeightMap::try_from(job).and_then(|job| heightmap_why::why(job, lists, cell, side)))
+    match HeightMap::try_from(job) {
+        Ok(job) => CWhy::from(heightmap_why::why(job, lists, cell, side)),
+        Err(why) => CWhy::from(Err(why)),
+    }
 }
 
 // Which face a number is: 1 the cap of a cell, 2 a side of a cell.
@@ -101,7 +112,10 @@ pub fn hosirekar_heightmap_which(
     ensures { result ≡ which_to_c (map_which_told job (lent cells neighbours fringe customs corners numbers marks) number) }
 {
     let lists = lists_of(cells, neighbours, fringe, customs, corners, numbers, marks);
-    CWhich::from(HeightMap::try_from(job).and_then(|job| heightmap_why::which(job, lists, number)))
+    match HeightMap::try_from(job) {
+        Ok(job) => CWhich::from(heightmap_why::which(job, lists, number)),
+        Err(why) => CWhich::from(Err(why)),
+    }
 }
 
 // The whole job, written to four buffers, or nothing.
@@ -123,7 +137,6 @@ pub fn hosirekar_heightmap_build(
     ensures buffers { Become (map_built job (lent cells neighbours fringe customs corners numbers marks)) vertices normals uvs indices }
 {
     let lists = lists_of(cells, neighbours, fringe, customs, corners, numbers, marks);
-    // A match: with the buffers in a closure the promise of them does not close.
     match HeightMap::try_from(job) {
         Ok(job) => CAnswer::from(heightmap_builder::build(
             job, lists, vertices, normals, uvs, indices,
