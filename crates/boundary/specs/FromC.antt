@@ -113,9 +113,6 @@ is_fringe mark = eqb mark 1 || eqb mark 2
 abbrev pub fringe_of : ℕ → Fringe
 fringe_of mark = cond (eqb mark 2) fringe.Listed fringe.Bare
 
-abbrev pub fringe_told : ℕ → Result Fringe Refusal
-fringe_told mark = cond (is_fringe mark) (Ok (fringe_of mark)) (Err Shape)
-
 abbrev pub customs_of : Bool → Customs
 customs_of listed = cond listed customs.Listed customs.Absent
 

@@ -1,7 +1,7 @@
 // A job as a caller hands it over, beside its lists.
 ghost use Rattle.std.specs.Prelude.{◌≡◌};
 ghost use Rattle.boundary.specs.FromC.{plane_of, choice_of, side_of, subdivisions_of, column_of, cheap_column_of};
-ghost use Rattle.boundary.specs.FromC.{range_of, fringe_told, customs_of, origin_of, height_map_told};
+ghost use Rattle.boundary.specs.FromC.{range_of, is_fringe, fringe_of, customs_of, origin_of, height_map_of, height_map_told};
 
 use crate::from_c::{CPlacement, CVec2};
 use answer::answer::Refusal;
@@ -181,14 +181,21 @@ impl From<COrigin> for Origin {
     }
 }
 
-// A fringe that has no meaning is refused. A function, as a foreign trait can have no impl for two foreign types.
-fn fringe_of(mark: u8) -> Result<Fringe, Refusal>
-    ensures { result ≡ fringe_told mark }
+// Whether the mark of a fringe has a meaning; where it has none the job is refused.
+pub fn is_fringe(mark: u8) -> bool
+    ensures { result ≡ is_fringe mark }
 {
-    match mark {
-        1 => Ok(Fringe::Bare),
-        2 => Ok(Fringe::Listed),
-        _ => Err(Refusal::Shape),
+    mark == 1 || mark == 2
+}
+
+// A function, as a foreign trait can have no impl for two foreign types.
+fn fringe_of(mark: u8) -> Fringe
+    ensures { result ≡ fringe_of mark }
+{
+    if mark == 2 {
+        Fringe::Listed
+    } else {
+        Fringe::Bare
     }
 }
 
@@ -203,20 +210,32 @@ fn customs_of(listed: bool) -> Customs
     }
 }
 
+// The job of every hand-over, also of a fringe without a meaning, which is read as none.
+pub fn heightmap_of(job: CHeightMap) -> HeightMap
+    ensures { result ≡ height_map_of job }
+{
+    HeightMap {
+        caps: Choice::from(job.caps),
+        sides: Choice::from(job.sides),
+        range: HeightRange::from(job.range),
+        fringe: fringe_of(job.fringe),
+        customs: customs_of(job.customs),
+        placement: Placement::from(job.placement),
+        origin: Origin::from(job.origin),
+    }
+}
+
+// A job whose fringe has no meaning is refused.
 impl TryFrom<CHeightMap> for HeightMap {
     type Error = Refusal;
 
     ghost try_from_gives = { λ job made. made ≡ height_map_told job };
 
     fn try_from(job: CHeightMap) -> Result<HeightMap, Refusal> {
-        Ok(HeightMap {
-            caps: Choice::from(job.caps),
-            sides: Choice::from(job.sides),
-            range: HeightRange::from(job.range),
-            fringe: fringe_of(job.fringe)?,
-            customs: customs_of(job.customs),
-            placement: Placement::from(job.placement),
-            origin: Origin::from(job.origin),
-        })
+        if is_fringe(job.fringe) {
+            Ok(heightmap_of(job))
+        } else {
+            Err(Refusal::Shape)
+        }
     }
 }
