@@ -39,8 +39,7 @@ pub trait Shape {
     ghost triangles: { List Triangle };
 
     // Its t-th triangle, of vertices counted from m, and three zeros where there is none.
-    fn own_triangle(m: usize, t: usize) -> Triangle
-        requires { m ≤ 6 }
+    fn own_triangle(m: u8, t: usize) -> Triangle
         ensures { result ≡ get_or (kept true m triangles) t no_triangle };
 
     ghost laws: { IsShape POINTS TRIANGLES triangles };
@@ -59,7 +58,8 @@ impl Shape for Quad {
 
     ghost laws = { quad_is_shape };
 
-    fn own_triangle(m: usize, t: usize) -> Triangle {
+    fn own_triangle(m: u8, t: usize) -> Triangle {
+        let m = m as usize;
         match t {
             0 => numbered(2 + m, 1 + m, m),
             1 => numbered(m, 3 + m, 2 + m),
@@ -81,7 +81,8 @@ impl Shape for Hexagon {
 
     ghost laws = { hexagon_is_shape };
 
-    fn own_triangle(m: usize, t: usize) -> Triangle {
+    fn own_triangle(m: u8, t: usize) -> Triangle {
+        let m = m as usize;
         match t {
             0 => numbered(m, 2 + m, 1 + m),
             1 => numbered(3 + m, 5 + m, 4 + m),
@@ -127,7 +128,7 @@ fn ring_triangle<S: Shape>(k: f32, keep: bool, t: usize) -> Triangle
     if t < outer {
         connection(k < 0.0, S::POINTS, t)
     } else if keep {
-        reverse_if(false, S::own_triangle(S::POINTS, t - outer))
+        reverse_if(false, S::own_triangle(S::POINTS as u8, t - outer))
     } else {
         numbered(0, 0, 0)
     }

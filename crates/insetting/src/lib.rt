@@ -12,7 +12,7 @@ use face::vec::{Point, Vec2, Vec3};
 use std::num::nearest_usize_to_f32;
 
 // The sum from +0 in order, over the count.
-fn centroid<P: Point, const N: usize>(ps: [P; N]) -> P
+pub fn centroid<P: Point, const N: usize>(ps: [P; N]) -> P
     ensures { result ≡ middle P.plus P.zero P.over ps }
 {
     ps.iter().fold(P::zero(), |sum, p| sum + *p) / nearest_usize_to_f32(N)

@@ -21,7 +21,12 @@ use denote.MutBor.{MutBor}
 use mir.Syntax.{Dict, w64}
 use mir.Val.{Fits}
 use Rattle.std.specs.declared.clone.Clone.{Ghosts as Clone}
+use Rattle.std.specs.declared.ops.Add.{Ghosts as Add}
+use Rattle.std.specs.declared.ops.Sub.{Ghosts as Sub}
+use Rattle.std.specs.declared.ops.Mul.{Ghosts as Mul}
+use Rattle.std.specs.declared.ops.Div.{Ghosts as Div}
 use Rattle.face.specs.declared.triangle.Shape.{Ghosts as Shape}
+use Rattle.face.specs.declared.vec.Point.{Ghosts as Point}
 use Rattle.boundary.specs.ToC.{answer_to_c}
 use Rattle.cells.specs.declared.Cell.{Cell}
 use Rattle.cells.specs.Cells.{load_answer, numbers_loaded, neighbours_loaded}
@@ -90,6 +95,12 @@ face-face-raise-six κs a x y v w p q = (determined p q, refl)
 pub face-face-new-hexagon : Fixes face.specs.contracts.face.new_hexagon.ended face.proofs.face.new_hexagon.Reads.Learnt
 face-face-new-hexagon κs a x y v w p q = (determined p q, refl)
 
+pub face-triangle-QuadShape-own-triangle : Fixes face.specs.contracts.triangle.QuadShape.own_triangle.ended face.proofs.triangle.QuadShape.own_triangle.Reads.Learnt
+face-triangle-QuadShape-own-triangle κs a x y v w p q = (determined p q, refl)
+
+pub face-triangle-HexagonShape-own-triangle : Fixes face.specs.contracts.triangle.HexagonShape.own_triangle.ended face.proofs.triangle.HexagonShape.own_triangle.Reads.Learnt
+face-triangle-HexagonShape-own-triangle κs a x y v w p q = (determined p q, refl)
+
 pub face-triangle-triangle-of : (S : RattleType) (l : Laws S) (s : Shape S.Denot) (d : Dict)
     → Fixes (face.specs.contracts.triangle.triangle_of.ended S s d) (face.proofs.triangle.triangle_of.Reads.Learnt S l s d)
 face-triangle-triangle-of S l s d κs a x y v w p q = (determined p q, refl)
@@ -137,6 +148,12 @@ face-vec-Vec2Point-zero κs a x y v w p q = (determined p q, refl)
 pub face-vec-Vec2Point-squared : Fixes face.specs.contracts.vec.Vec2Point.squared.ended face.proofs.vec.Vec2Point.squared.Reads.Learnt
 face-vec-Vec2Point-squared κs a x y v w p q = (determined p q, refl)
 
+pub face-vec-Vec2Point-length : Fixes face.specs.contracts.vec.Vec2Point.length.ended face.proofs.vec.Vec2Point.length.Reads.Learnt
+face-vec-Vec2Point-length κs a x y v w p q = (determined p q, refl)
+
+pub face-vec-Vec2Point-direction : Fixes face.specs.contracts.vec.Vec2Point.direction.ended face.proofs.vec.Vec2Point.direction.Reads.Learnt
+face-vec-Vec2Point-direction κs a x y v w p q = (determined p q, refl)
+
 pub face-vec-Vec3Add-add : Fixes face.specs.contracts.vec.Vec3Add.add.ended face.proofs.vec.Vec3Add.add.Reads.Learnt
 face-vec-Vec3Add-add κs a x y v w p q = (determined p q, refl)
 
@@ -155,6 +172,12 @@ face-vec-Vec3Point-zero κs a x y v w p q = (determined p q, refl)
 pub face-vec-Vec3Point-squared : Fixes face.specs.contracts.vec.Vec3Point.squared.ended face.proofs.vec.Vec3Point.squared.Reads.Learnt
 face-vec-Vec3Point-squared κs a x y v w p q = (determined p q, refl)
 
+pub face-vec-Vec3Point-length : Fixes face.specs.contracts.vec.Vec3Point.length.ended face.proofs.vec.Vec3Point.length.Reads.Learnt
+face-vec-Vec3Point-length κs a x y v w p q = (determined p q, refl)
+
+pub face-vec-Vec3Point-direction : Fixes face.specs.contracts.vec.Vec3Point.direction.ended face.proofs.vec.Vec3Point.direction.Reads.Learnt
+face-vec-Vec3Point-direction κs a x y v w p q = (determined p q, refl)
+
 -- ---- patterns
 pub patterns-float : Fixes patterns.specs.contracts.float.ended patterns.proofs.float.Reads.Learnt
 patterns-float κs a x y v w p q = (determined p q, refl)
@@ -172,6 +195,10 @@ pub patterns-of-bytes : Fixes patterns.specs.contracts.of_bytes.ended patterns.p
 patterns-of-bytes κs a x y v w p q = (determined p q, refl)
 
 -- ---- insetting
+pub insetting-centroid : (P : RattleType) (n : ℕ) (l : Laws P) (f : Fits w64 n) (c : IsCopy P) (p : Point P.Denot) (i : Dict) (copied : Clone P.Denot) (j : Dict) (added : Add P.Denot P.Denot P.Denot) (k : Dict) (less : Sub P.Denot P.Denot P.Denot) (m : Dict) (times : Mul P.Denot Float P.Denot) (o : Dict) (over : Div P.Denot Float P.Denot) (r : Dict)
+    → Fixes (insetting.specs.contracts.centroid.ended P (number n) p i copied j added k less m times o over r) (insetting.proofs.centroid.Reads.Learnt P n l f c p i copied j added k less m times o over r)
+insetting-centroid P n l f c p i copied j added k less m times o over r κs a x y v w q s = (determined q s, refl)
+
 pub insetting-inset-quad : Fixes insetting.specs.contracts.inset_quad.ended insetting.proofs.inset_quad.Reads.Learnt
 insetting-inset-quad κs a x y v w p q = (determined p q, refl)
 
@@ -236,6 +263,9 @@ placement-options-entries κs a x y v w p q = (determined p q, refl)
 
 pub placement-options-is-table : Fixes placement.specs.contracts.options.is_table.ended placement.proofs.options.is_table.Reads.Learnt
 placement-options-is-table κs a x y v w p q = (determined p q, refl)
+
+pub placement-options-FaceOptionsDefault-default : Fixes placement.specs.contracts.options.FaceOptionsDefault.default.ended placement.proofs.options.FaceOptionsDefault.default.Reads.Learnt
+placement-options-FaceOptionsDefault-default κs a x y v w p q = (determined p q, refl)
 
 pub placement-options-option-at : Fixes placement.specs.contracts.options.option_at.ended placement.proofs.options.option_at.Reads.Learnt
 placement-options-option-at κs a x y v w p q = (determined p q, refl)
@@ -501,6 +531,12 @@ boundary-jobs-HeightRangeFromCRange-from κs a x y v w p q = (determined p q, re
 
 pub boundary-jobs-OriginFromCOrigin-from : Fixes boundary.specs.contracts.jobs.OriginFromCOrigin.from.ended boundary.proofs.jobs.OriginFromCOrigin.from.Reads.Learnt
 boundary-jobs-OriginFromCOrigin-from κs a x y v w p q = (determined p q, refl)
+
+pub boundary-jobs-is-fringe : Fixes boundary.specs.contracts.jobs.is_fringe.ended boundary.proofs.jobs.is_fringe.Reads.Learnt
+boundary-jobs-is-fringe κs a x y v w p q = (determined p q, refl)
+
+pub boundary-jobs-heightmap-of : Fixes boundary.specs.contracts.jobs.heightmap_of.ended boundary.proofs.jobs.heightmap_of.Reads.Learnt
+boundary-jobs-heightmap-of κs a x y v w p q = (determined p q, refl)
 
 pub boundary-jobs-HeightMapTryFromCHeightMap-try-from : Fixes boundary.specs.contracts.jobs.HeightMapTryFromCHeightMap.try_from.ended boundary.proofs.jobs.HeightMapTryFromCHeightMap.try_from.Reads.Learnt
 boundary-jobs-HeightMapTryFromCHeightMap-try-from κs a x y v w p q = (determined p q, refl)
