@@ -54,7 +54,10 @@ fn copy(buffer: &mut [f32], at: usize, numbers: &[f32])
     requires { at + length numbers.now ≤ length buffer.old }
     ensures { buffer.new ≡ laid buffer.old at numbers.now }
 {
-    buffer[at..at + numbers.len()].copy_from_slice(numbers);
+    // No `copy_from_slice`: the archive would ask C for `memmove`.
+    for (k, x) in numbers.iter().enumerate() {
+        buffer[at + k] = *x;
+    }
 }
 
 // Vertex numbers, each after b others.
