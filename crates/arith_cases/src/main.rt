@@ -103,10 +103,11 @@ fn compared(input: &mut impl Read) -> Option<(Tally<1>, Tally<3>)> {
     record::ended(input).then_some((of_root, of_fused))
 }
 
-// What cannot be written is lost: it is no case that differs.
 fn main(rt: HostRuntime) {
-    let _ = match compared(&mut rt.stdin()) {
+    match compared(&mut rt.stdin()) {
         Some((of_root, of_fused)) => report::report(&rt, &of_root, &of_fused),
-        None => println!(rt; "the record does not read"),
-    };
+        None => {
+            let _ = println!(rt; "the record does not read");
+        }
+    }
 }

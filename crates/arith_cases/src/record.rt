@@ -1,6 +1,6 @@
 // Reads a record of cases and takes it apart. No contract can say what is read; those here say what
 // holds of the answers whatever it is.
-ghost use Rattle.std.specs.Prelude.{◌≤◌, ◌^◌};
+ghost use Rattle.std.specs.Prelude.{◌≤◌, ◌^◌, OnSome};
 ghost use Rattle.arith_cases.specs.Cell.{Below};
 
 use crate::cell;
@@ -9,10 +9,13 @@ use std::io::Read;
 // The bytes of the longest line.
 const LONGEST: usize = 450;
 
-// A line of as many patterns as are asked for, at most 50.
+// A line of as many patterns as are asked for. No line has more than 50.
 pub(crate) fn line<const N: usize>(input: &mut impl Read) -> Option<[u32; N]>
-    requires { N ≤ 50 }
+    ensures { OnSome result (N ≤ 50) }
 {
+    if N > 50 {
+        return None;
+    }
     let mut text = [0; LONGEST];
     let text = &mut text[..9 * N];
     input.read_exact(text).ok()?;

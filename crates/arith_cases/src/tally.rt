@@ -2,25 +2,12 @@
 ghost use Rattle.std.specs.Prelude.{◌≡◌};
 ghost use Rattle.arith_cases.specs.Counting.{nothing_yet, compared};
 
-use std::fmt;
-
 // A case: the numbers that tell it, what was made of them and what the record has.
 #[derive(Clone, Copy)]
 pub(crate) struct Case<const N: usize> {
     pub of: [u32; N],
     pub made: u32,
     pub recorded: u32,
-}
-
-impl<const N: usize> fmt::Display for Case<N> {
-    fn fmt<W: fmt::Write>(&self, f: &mut fmt::Formatter<W>) -> fmt::Result {
-        for x in &self.of {
-            write!(f, "{x:08x} ")?;
-        }
-        let made = self.made;
-        let recorded = self.recorded;
-        write!(f, "is {made:08x}, not {recorded:08x}")
-    }
 }
 
 // How many cases were compared, how many differ, and the first that does.

@@ -1,9 +1,8 @@
 // The kinds of cases of a record, and how many of each differ from it.
 use crate::words;
 use crate::words::Recorded;
-use std::alloc::{AllocError, Global};
+use std::io;
 use std::io::{Read, Write};
-use std::{array, fmt, io};
 
 // What ends a case.
 const END: u32 = 0xe4d;
@@ -30,19 +29,33 @@ impl Tally {
     }
 }
 
-impl fmt::Display for Tally {
-    fn fmt<W: fmt::Write>(&self, f: &mut fmt::Formatter<W>) -> fmt::Result {
-        write!(f, "{}, differ {}", self.cases, self.differ)?;
-        match self.first {
-            Some(first) => write!(f, ", first {first}"),
-            None => Ok(()),
-        }
+// Each piece is written by itself: what cannot be written is lost, and the rest is written all the same.
+fn print_tally(rt: &impl Print, tally: Tally) {
+    let Tally {
+        cases,
+        differ,
+        first,
+    } = tally;
+    let _ = print!(rt; "{cases}");
+    let _ = print!(rt; ", differ ");
+    let _ = print!(rt; "{differ}");
+    if let Some(first) = first {
+        let _ = print!(rt; ", first ");
+        let _ = print!(rt; "{first}");
     }
+    let _ = print!(rt; "\n");
 }
 
-// The name of a kind, as the record has it.
+// The name of a kind, as the record has it: up to the first end of input.
 fn name<R: Read>(from: &mut R) -> [u8; 9] {
-    array::from_fn(|_| words::byte(from).unwrap_or(0))
+    let mut name = [0; 9];
+    for place in name.iter_mut() {
+        let Some(byte) = words::byte(from) else {
+            break;
+        };
+        *place = byte;
+    }
+    name
 }
 
 // Whether the record ends here, and as it should.
@@ -53,37 +66,33 @@ fn is_ended<R: Read>(from: &mut R) -> bool {
 // A kind of cases.
 pub trait Cases: Copy {
     // Replays one case, and answers whether it is as the record has it.
-    fn is_right<R: Read>(self, from: &mut R, alloc: Global) -> Result<bool, AllocError>;
+    fn is_right<R: Read>(self, from: &mut R) -> bool;
 
-    // Replays the cases of a kind, and answers whether the record reads so far.
-    fn replay<R: Read, P: Print + AllocGlobal>(self, from: &mut R, rt: &P) -> io::Result<bool> {
-        io::writer(rt).write_all(&name(from))?;
+    // Replays the cases of a kind, and answers whether the record reads so far. What cannot be written is lost: the
+    // record is read on.
+    fn replay<R: Read, P: Print>(self, from: &mut R, rt: &P) -> bool {
+        let _ = io::writer(rt).write_all(&name(from));
         let n = u32::read(from);
         let mut tally = Tally::default();
         for _ in 0..n {
-            let right = self.is_right(from, rt.alloc())?;
+            let right = self.is_right(from);
             if u32::read(from) != END {
                 break;
             }
             tally = tally.with(right);
         }
-        println!(rt; "{tally}")?;
-        Ok(tally.cases == n)
+        print_tally(rt, tally);
+        tally.cases == n
     }
 
     // Replays a record that has these kinds, in this order.
-    fn replay_all<R: Read, P: Print + AllocGlobal>(
-        kinds: &[Self],
-        from: &mut R,
-        rt: &P,
-    ) -> io::Result<()> {
+    fn replay_all<R: Read, P: Print>(kinds: &[Self], from: &mut R, rt: &P) {
         let mut reads = true;
         for kind in kinds {
-            reads = reads && kind.replay(from, rt)?;
+            reads = reads && kind.replay(from, rt);
         }
-        if reads && is_ended(from) {
-            return Ok(());
+        if !(reads && is_ended(from)) {
+            let _ = println!(rt; "the record does not read");
         }
-        println!(rt; "the record does not read")
     }
 }

@@ -1,11 +1,9 @@
 // The runs of a job: its calls, each with what it should answer, over lists that are lent to be filled.
 use crate::answers::Told;
 use crate::digest::{Digest, Digested, Lanes};
-use crate::lists;
-use crate::lists::{Lists, ReadLists, Room};
+use crate::lists::{Lists, Places, ReadLists, Room};
 use crate::words::Recorded;
 use answer::answer::Answer;
-use std::alloc::{AllocError, Global};
 use std::io::Read;
 
 // The most runs of a case, and the most calls of a run.
@@ -39,8 +37,9 @@ pub trait Job {
     fn face(&self, number: usize, to: &mut Lists) -> Answer;
 
     // Makes the calls that the record names, and holds what they answer and leave to it.
-    fn is_run_right<R: Read>(&self, from: &mut R, alloc: Global) -> Result<bool, AllocError> {
-        let mut lists = lists::untouched(alloc, Room::read(from))?;
+    fn is_run_right<R: Read>(&self, from: &mut R) -> bool {
+        let mut places = Places::default();
+        let mut lists = places.lent(Room::read(from));
         let mut right = true;
         for _ in 0..from.count(CALLS) {
             let answer = match Call::from(u32::read(from)) {
@@ -51,16 +50,15 @@ pub trait Job {
             right &= Told::read(from) == Told::from(answer);
         }
         let digest = lists.digested(Digest::default());
-        right &= Lanes::read(from) == Lanes::from(digest);
-        Ok(right)
+        Lanes::read(from) == Lanes::from(digest) && right
     }
 
     // The runs of a job: all are made, whatever one of them gives.
-    fn are_runs_right<R: Read>(&self, from: &mut R, alloc: Global) -> Result<bool, AllocError> {
+    fn are_runs_right<R: Read>(&self, from: &mut R) -> bool {
         let mut right = true;
         for _ in 0..from.count(RUNS) {
-            right &= self.is_run_right(from, alloc)?;
+            right &= self.is_run_right(from);
         }
-        Ok(right)
+        right
     }
 }

@@ -2,6 +2,7 @@
 // of a job, digests, and how many cases differ. The caller has the reader and the writer.
 #![tactic(auto)]
 
+pub mod ahead;
 pub mod answers;
 pub mod cases;
 pub mod digest;

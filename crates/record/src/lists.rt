@@ -1,10 +1,11 @@
-// The lists of a job and of a mesh: each is as long as what is lent of it.
-ghost use Rattle.std.specs.Prelude.{◌≤◌};
+// The lists of a job and of a mesh, in places that the caller holds: each is as long as what is lent of it.
+ghost use Rattle.std.specs.Prelude.{◌≡◌, ◌≤◌, length, min, replicate, take};
 ghost use Rattle.record.specs.Digests.{words_of};
+ghost use Rattle.record.specs.Reading.{left};
 
+use crate::ahead::Ahead;
 use crate::digest::{Digest, Digested};
 use crate::words::Recorded;
-use std::alloc::{AllocError, Global};
 use std::io::Read;
 
 // The room of a list of numbers and of one of indices, whether a job carries it or a call fills it.
@@ -26,13 +27,22 @@ pub(crate) struct Room {
     indices: usize,
 }
 
+// The places of the four lists of a mesh.
+#[derive(Drop)]
+pub struct Places {
+    vertices: [f32; FLOATS],
+    normals: [f32; FLOATS],
+    uvs: [f32; FLOATS],
+    indices: [u16; INDICES],
+}
+
 // The four lists of a mesh, as a call finds and leaves them.
 #[derive(Drop)]
-pub struct Lists {
-    pub vertices: Vec<f32>,
-    pub normals: Vec<f32>,
-    pub uvs: Vec<f32>,
-    pub indices: Vec<u16>,
+pub struct Lists<'a> {
+    pub vertices: &'a mut [f32],
+    pub normals: &'a mut [f32],
+    pub uvs: &'a mut [f32],
+    pub indices: &'a mut [u16],
 }
 
 impl Recorded for Room {
@@ -46,29 +56,74 @@ impl Recorded for Room {
     }
 }
 
-impl Digested for &Lists {
-    ghost words = { λ l. words_of l.now.vertices.items l.now.normals.items l.now.uvs.items l.now.indices.items };
+impl Digested for &Lists<'_> {
+    ghost words = { λ l. words_of l.now.vertices.now l.now.normals.now l.now.uvs.now l.now.indices.now };
 
     fn digested(self, d: Digest) -> Digest {
-        let d = self.vertices.as_slice().digested(d);
-        let d = self.normals.as_slice().digested(d);
-        let d = self.uvs.as_slice().digested(d);
-        self.indices.as_slice().digested(d)
+        let d = (&*self.vertices).digested(d);
+        let d = (&*self.normals).digested(d);
+        let d = (&*self.uvs).digested(d);
+        (&*self.indices).digested(d)
     }
 }
 
-// Lists with nothing read into them.
-pub(crate) fn untouched(alloc: Global, room: Room) -> Result<Lists, AllocError> {
-    Ok(Lists {
-        vertices: vec![in alloc; KEPT; room.vertices]?,
-        normals: vec![in alloc; KEPT; room.normals]?,
-        uvs: vec![in alloc; KEPT; room.uvs]?,
-        indices: vec![in alloc; KEPT_INDEX; room.indices]?,
-    })
+// The first places of a list, as many as are asked for and there.
+fn first<T>(list: &mut [T], n: usize) -> &mut [T]
+    ensures { result.now ≡ take n list.old }
+{
+    let n = n.min(list.len());
+    &mut list[..n]
 }
 
-// What takes more than words: a count in a room, and lists.
+// Places with nothing read into them.
+impl Default for Places {
+    fn default() -> Places
+        ensures vertices { result.vertices ≡ replicate 800 KEPT }
+        ensures normals { result.normals ≡ replicate 800 KEPT }
+        ensures uvs { result.uvs ≡ replicate 800 KEPT }
+        ensures indices { result.indices ≡ replicate 1000 KEPT_INDEX }
+    {
+        Places {
+            vertices: [KEPT; FLOATS],
+            normals: [KEPT; FLOATS],
+            uvs: [KEPT; FLOATS],
+            indices: [KEPT_INDEX; INDICES],
+        }
+    }
+}
+
+impl Places {
+    pub(crate) fn lent(&mut self, room: Room) -> Lists<'_>
+        ensures vertices { result.vertices.now ≡ take room.vertices self.old.vertices }
+        ensures normals { result.normals.now ≡ take room.normals self.old.normals }
+        ensures uvs { result.uvs.now ≡ take room.uvs self.old.uvs }
+        ensures indices { result.indices.now ≡ take room.indices self.old.indices }
+    {
+        let Places {
+            vertices,
+            normals,
+            uvs,
+            indices,
+        } = self;
+        Lists {
+            vertices: first(vertices, room.vertices),
+            normals: first(normals, room.normals),
+            uvs: first(uvs, room.uvs),
+            indices: first(indices, room.indices),
+        }
+    }
+}
+
+// What takes more than words: a count in a room, and lists; and what is read ahead of.
 pub trait ReadLists: Read {
+    fn ahead(self) -> Ahead<Self>
+    where
+        Self: Sized,
+        ensures { left Self.remaining result ≡ Self.remaining self }
+    {
+        Ahead::new(self)
+    }
+
     // A count, none greater than the room that it speaks of.
     fn count(&mut self, most: usize) -> usize
     where
@@ -78,34 +133,35 @@ pub trait ReadLists: Read {
         usize::read(self).min(most)
     }
 
-    fn list<T: Recorded>(&mut self, alloc: Global, n: usize) -> Result<Vec<T>, AllocError>
+    // Reads a list into the first n places of these, or into all, and gives what it read.
+    fn list<'a, T: Recorded>(&mut self, places: &'a mut [T], n: usize) -> &'a mut [T]
     where
         Self: Sized,
+        ensures { length result.now ≡ min n (length places.old) }
     {
-        (0..n).map(|_| T::read(self)).collect(alloc)
+        let list = first(places, n);
+        for place in list.iter_mut() {
+            *place = T::read(self);
+        }
+        list
     }
 
     // The lists before a call: how much of each is lent, how much of it is other than what stands in all, and that.
-    fn lists(&mut self, alloc: Global) -> Result<Lists, AllocError>
+    fn lists<'a>(&mut self, places: &'a mut Places) -> Lists<'a>
     where
         Self: Sized,
+        ensures vertices { length result.vertices.now ≤ 800 }
+        ensures normals { length result.normals.now ≤ 800 }
+        ensures uvs { length result.uvs.now ≤ 800 }
+        ensures indices { length result.indices.now ≤ 1000 }
     {
         let lent = Room::read(self);
         let told = Room::read(self);
-        let mut vertices = self.list(alloc, told.vertices)?;
-        let mut normals = self.list(alloc, told.normals)?;
-        let mut uvs = self.list(alloc, told.uvs)?;
-        let mut indices = self.list(alloc, told.indices)?;
-        vertices.resize(lent.vertices, KEPT)?;
-        normals.resize(lent.normals, KEPT)?;
-        uvs.resize(lent.uvs, KEPT)?;
-        indices.resize(lent.indices, KEPT_INDEX)?;
-        Ok(Lists {
-            vertices,
-            normals,
-            uvs,
-            indices,
-        })
+        self.list(&mut places.vertices, told.vertices);
+        self.list(&mut places.normals, told.normals);
+        self.list(&mut places.uvs, told.uvs);
+        self.list(&mut places.indices, told.indices);
+        places.lent(lent)
     }
 }
 

@@ -19,6 +19,8 @@ pub(crate) fn byte<R: Read>(from: &mut R) -> Option<u8> {
 }
 
 impl Recorded for u32 {
+    // Every number of a record is read by this one: a copy at each place would be most of a program.
+    #[inline(never)]
     fn read<R: Read>(from: &mut R) -> u32 {
         let mut value = 0u32;
         for _ in 0..9 {

@@ -5,29 +5,29 @@ use record::jobs::Job;
 use record::lists::Lists;
 
 #[derive(Drop)]
-pub(crate) struct CheapJob(pub Words);
+pub(crate) struct CheapJob<'a>(pub Words<'a>);
 
 #[derive(Drop)]
-pub(crate) struct PlaneJob(pub Words);
+pub(crate) struct PlaneJob<'a>(pub Words<'a>);
 
 #[derive(Drop)]
-pub(crate) struct ColumnJob(pub Words);
+pub(crate) struct ColumnJob<'a>(pub Words<'a>);
 
-impl Job for CheapJob {
+impl Job for CheapJob<'_> {
     fn plan(&self) -> Answer {
         let of = &self.0;
-        cheap_column::plan(of.cheap(), &of.corners)
+        cheap_column::plan(of.cheap(), of.corners)
     }
 
     fn build(&self, to: &mut Lists) -> Answer {
         let of = &self.0;
         cheap_column::build(
             of.cheap(),
-            &of.corners,
-            &mut to.vertices,
-            &mut to.normals,
-            &mut to.uvs,
-            &mut to.indices,
+            of.corners,
+            to.vertices,
+            to.normals,
+            to.uvs,
+            to.indices,
         )
     }
 
@@ -35,33 +35,33 @@ impl Job for CheapJob {
         let of = &self.0;
         cheap_column::face(
             of.cheap(),
-            &of.corners,
+            of.corners,
             number,
-            &mut to.vertices,
-            &mut to.normals,
-            &mut to.uvs,
-            &mut to.indices,
+            to.vertices,
+            to.normals,
+            to.uvs,
+            to.indices,
         )
     }
 }
 
-impl Job for PlaneJob {
+impl Job for PlaneJob<'_> {
     fn plan(&self) -> Answer {
         let of = &self.0;
-        plane_builder::plan(of.plane(), &of.corners, &of.numbers, &of.marks)
+        plane_builder::plan(of.plane(), of.corners, of.numbers, of.marks)
     }
 
     fn build(&self, to: &mut Lists) -> Answer {
         let of = &self.0;
         plane_builder::build(
             of.plane(),
-            &of.corners,
-            &of.numbers,
-            &of.marks,
-            &mut to.vertices,
-            &mut to.normals,
-            &mut to.uvs,
-            &mut to.indices,
+            of.corners,
+            of.numbers,
+            of.marks,
+            to.vertices,
+            to.normals,
+            to.uvs,
+            to.indices,
         )
     }
 
@@ -69,36 +69,36 @@ impl Job for PlaneJob {
         let of = &self.0;
         plane_builder::face(
             of.plane(),
-            &of.corners,
-            &of.numbers,
-            &of.marks,
+            of.corners,
+            of.numbers,
+            of.marks,
             number,
-            &mut to.vertices,
-            &mut to.normals,
-            &mut to.uvs,
-            &mut to.indices,
+            to.vertices,
+            to.normals,
+            to.uvs,
+            to.indices,
         )
     }
 }
 
-impl Job for ColumnJob {
+impl Job for ColumnJob<'_> {
     fn plan(&self) -> Answer {
         let of = &self.0;
-        column_builder::plan(of.column, &of.pairs, &of.corners, &of.numbers, &of.marks)
+        column_builder::plan(of.column, of.pairs, of.corners, of.numbers, of.marks)
     }
 
     fn build(&self, to: &mut Lists) -> Answer {
         let of = &self.0;
         column_builder::build(
             of.column,
-            &of.pairs,
-            &of.corners,
-            &of.numbers,
-            &of.marks,
-            &mut to.vertices,
-            &mut to.normals,
-            &mut to.uvs,
-            &mut to.indices,
+            of.pairs,
+            of.corners,
+            of.numbers,
+            of.marks,
+            to.vertices,
+            to.normals,
+            to.uvs,
+            to.indices,
         )
     }
 
@@ -106,15 +106,15 @@ impl Job for ColumnJob {
         let of = &self.0;
         column_builder::face(
             of.column,
-            &of.pairs,
-            &of.corners,
-            &of.numbers,
-            &of.marks,
+            of.pairs,
+            of.corners,
+            of.numbers,
+            of.marks,
             number,
-            &mut to.vertices,
-            &mut to.normals,
-            &mut to.uvs,
-            &mut to.indices,
+            to.vertices,
+            to.normals,
+            to.uvs,
+            to.indices,
         )
     }
 }

@@ -7,20 +7,59 @@ use placement::placement::Placement;
 use plane_builder::Plane;
 use record::lists::{FLOATS, ReadLists};
 use record::words::Recorded;
-use std::alloc::{AllocError, Global};
 use std::array;
 use std::io::Read;
 
 // The room of the marks of 65 options, one more than a job may have.
 const MARKS: usize = 260;
 
+// The places of the lists of a job.
 #[derive(Drop)]
-pub(crate) struct Words {
-    pub pairs: Vec<f32>,
-    pub corners: Vec<f32>,
-    pub numbers: Vec<f32>,
-    pub marks: Vec<u8>,
+pub(crate) struct Places {
+    pairs: [f32; FLOATS],
+    corners: [f32; FLOATS],
+    numbers: [f32; FLOATS],
+    marks: [u8; MARKS],
+}
+
+// How long the lists of a job are.
+#[derive(Clone, Copy)]
+struct Lengths {
+    pairs: usize,
+    corners: usize,
+    numbers: usize,
+    marks: usize,
+}
+
+#[derive(Drop)]
+pub(crate) struct Words<'a> {
+    pub pairs: &'a [f32],
+    pub corners: &'a [f32],
+    pub numbers: &'a [f32],
+    pub marks: &'a [u8],
     pub column: Column,
+}
+
+impl Places {
+    pub(crate) fn new() -> Places {
+        Places {
+            pairs: [0.0; FLOATS],
+            corners: [0.0; FLOATS],
+            numbers: [0.0; FLOATS],
+            marks: [0; MARKS],
+        }
+    }
+}
+
+impl Recorded for Lengths {
+    fn read<R: Read>(from: &mut R) -> Lengths {
+        Lengths {
+            pairs: from.count(FLOATS),
+            corners: from.count(FLOATS),
+            numbers: from.count(FLOATS),
+            marks: from.count(MARKS),
+        }
+    }
 }
 
 fn side<R: Read>(from: &mut R) -> Side {
@@ -45,19 +84,22 @@ fn column<R: Read>(from: &mut R) -> Column {
     }
 }
 
-impl Words {
-    pub(crate) fn read<R: Read>(from: &mut R, alloc: Global) -> Result<Words, AllocError> {
-        let pairs = from.count(FLOATS);
-        let corners = from.count(FLOATS);
-        let numbers = from.count(FLOATS);
-        let marks = from.count(MARKS);
-        Ok(Words {
-            pairs: from.list(alloc, pairs)?,
-            corners: from.list(alloc, corners)?,
-            numbers: from.list(alloc, numbers)?,
-            marks: from.list(alloc, marks)?,
+impl<'a> Words<'a> {
+    pub(crate) fn read<R: Read>(from: &mut R, places: &'a mut Places) -> Words<'a> {
+        let of = Lengths::read(from);
+        let Places {
+            pairs,
+            corners,
+            numbers,
+            marks,
+        } = places;
+        Words {
+            pairs: from.list(pairs, of.pairs),
+            corners: from.list(corners, of.corners),
+            numbers: from.list(numbers, of.numbers),
+            marks: from.list(marks, of.marks),
             column: column(from),
-        })
+        }
     }
 
     pub(crate) fn cheap(&self) -> CheapColumn {

@@ -1,5 +1,5 @@
 // Replays recorded cheap columns, planes, columns, merges and points through the crates' public calls, and tells of each
-// kind how many differ from the record and which is the first. Where memory or the output fails, it ends with an error.
+// kind how many differ from the record and which is the first.
 #![tactic(auto)]
 
 mod calls;
@@ -8,12 +8,11 @@ mod merges;
 mod points;
 
 use calls::{CheapJob, ColumnJob, PlaneJob};
-use job::Words;
+use job::{Places, Words};
 use record::cases::Cases;
 use record::jobs::Job;
-use std::alloc::{AllocError, Global};
-use std::io;
-use std::io::{BufReader, Read};
+use record::lists::ReadLists;
+use std::io::Read;
 
 #[derive(Clone, Copy)]
 enum Kind {
@@ -36,19 +35,18 @@ const KINDS: [Kind; 6] = [
 ];
 
 impl Cases for Kind {
-    fn is_right<R: Read>(self, from: &mut R, alloc: Global) -> Result<bool, AllocError> {
+    fn is_right<R: Read>(self, from: &mut R) -> bool {
         match self {
-            Kind::Cheap => CheapJob(Words::read(from, alloc)?).are_runs_right(from, alloc),
-            Kind::Planes => PlaneJob(Words::read(from, alloc)?).are_runs_right(from, alloc),
-            Kind::Columns => ColumnJob(Words::read(from, alloc)?).are_runs_right(from, alloc),
-            Kind::Merges => merges::is_merge(from, alloc),
-            Kind::Points => Ok(points::is_point(from)),
-            Kind::Wraps => Ok(points::is_wrap(from)),
+            Kind::Cheap => CheapJob(Words::read(from, &mut Places::new())).are_runs_right(from),
+            Kind::Planes => PlaneJob(Words::read(from, &mut Places::new())).are_runs_right(from),
+            Kind::Columns => ColumnJob(Words::read(from, &mut Places::new())).are_runs_right(from),
+            Kind::Merges => merges::is_merge(from),
+            Kind::Points => points::is_point(from),
+            Kind::Wraps => points::is_wrap(from),
         }
     }
 }
 
-fn main(rt: HostRuntime) -> io::Result<()> {
-    let mut from = BufReader::new(rt.alloc(), rt.reader())?;
-    Kind::replay_all(&KINDS, &mut from, &rt)
+fn main(rt: HostRuntime) {
+    Kind::replay_all(&KINDS, &mut rt.stdin().ahead(), &rt);
 }

@@ -8,7 +8,6 @@ use placement::placement::Placement;
 use record::jobs::Job;
 use record::lists::{FLOATS, Lists, ReadLists};
 use record::words::Recorded;
-use std::alloc::{AllocError, Global};
 use std::io::Read;
 
 // The most cells that a rule makes: with insets everywhere, one more than can be numbered.
@@ -33,14 +32,14 @@ struct Lengths {
 }
 
 #[derive(Drop)]
-pub(crate) struct Map {
-    cells: Vec<f32>,
-    neighbours: Vec<u32>,
-    fringe: Vec<f32>,
-    customs: Vec<u8>,
-    corners: Vec<f32>,
-    numbers: Vec<f32>,
-    marks: Vec<u8>,
+struct Map<'a> {
+    cells: &'a [f32],
+    neighbours: &'a [u32],
+    fringe: &'a [f32],
+    customs: &'a [u8],
+    corners: &'a [f32],
+    numbers: &'a [f32],
+    marks: &'a [u8],
     map: HeightMap,
 }
 
@@ -93,61 +92,23 @@ fn settings<R: Read>(from: &mut R) -> HeightMap {
     }
 }
 
-impl Map {
-    // A map whose cells the record lists.
-    pub(crate) fn listed<R: Read>(from: &mut R, alloc: Global) -> Result<Map, AllocError> {
-        let of = Lengths::read(from);
-        Ok(Map {
-            cells: from.list(alloc, of.cells)?,
-            neighbours: from.list(alloc, of.neighbours)?,
-            fringe: from.list(alloc, of.fringe)?,
-            customs: from.list(alloc, of.customs)?,
-            corners: from.list(alloc, of.corners)?,
-            numbers: from.list(alloc, of.numbers)?,
-            marks: from.list(alloc, of.marks)?,
-            map: settings(from),
-        })
-    }
-
-    // A map of so many cells that no record lists them: the height of cell 0 is 0, all their other numbers are 1, and
-    // across every side is cell 0, so that six walls stand on each cell but that one.
-    pub(crate) fn of_many<R: Read>(from: &mut R, alloc: Global) -> Result<Map, AllocError> {
-        let many = from.count(MANY);
-        let of = Lengths::read(from);
-        let mut cells = vec![in alloc; 1.0; 27 * many]?;
-        if let Some(height) = cells.first_mut() {
-            *height = 0.0;
-        }
-        Ok(Map {
-            cells,
-            neighbours: vec![in alloc; 0; 6 * many]?,
-            fringe: Vec::new(alloc),
-            customs: Vec::new(alloc),
-            corners: from.list(alloc, of.corners)?,
-            numbers: from.list(alloc, of.numbers)?,
-            marks: from.list(alloc, of.marks)?,
-            map: settings(from),
-        })
-    }
-}
-
-impl Map {
+impl Map<'_> {
     fn lent(&self) -> heightmap::Lists<'_> {
         heightmap::Lists {
             grid: Grid {
-                cells: &self.cells,
-                neighbours: &self.neighbours,
-                fringe: &self.fringe,
+                cells: self.cells,
+                neighbours: self.neighbours,
+                fringe: self.fringe,
             },
-            customs: &self.customs,
-            corners: &self.corners,
-            numbers: &self.numbers,
-            marks: &self.marks,
+            customs: self.customs,
+            corners: self.corners,
+            numbers: self.numbers,
+            marks: self.marks,
         }
     }
 }
 
-impl Job for Map {
+impl Job for Map<'_> {
     fn plan(&self) -> Answer {
         heightmap_builder::plan(self.map, self.lent())
     }
@@ -156,10 +117,10 @@ impl Job for Map {
         heightmap_builder::build(
             self.map,
             self.lent(),
-            &mut to.vertices,
-            &mut to.normals,
-            &mut to.uvs,
-            &mut to.indices,
+            to.vertices,
+            to.normals,
+            to.uvs,
+            to.indices,
         )
     }
 
@@ -168,10 +129,57 @@ impl Job for Map {
             self.map,
             self.lent(),
             number,
-            &mut to.vertices,
-            &mut to.normals,
-            &mut to.uvs,
-            &mut to.indices,
+            to.vertices,
+            to.normals,
+            to.uvs,
+            to.indices,
         )
     }
+}
+
+// A map whose cells the record lists.
+pub(crate) fn is_listed<R: Read>(from: &mut R) -> bool {
+    let of = Lengths::read(from);
+    let mut cells = [0.0; FLOATS];
+    let mut neighbours = [0; LINKS];
+    let mut fringe = [0.0; FLOATS];
+    let mut customs = [0; MARKS];
+    let mut corners = [0.0; FLOATS];
+    let mut numbers = [0.0; FLOATS];
+    let mut marks = [0; MARKS];
+    let map = Map {
+        cells: from.list(&mut cells, of.cells),
+        neighbours: from.list(&mut neighbours, of.neighbours),
+        fringe: from.list(&mut fringe, of.fringe),
+        customs: from.list(&mut customs, of.customs),
+        corners: from.list(&mut corners, of.corners),
+        numbers: from.list(&mut numbers, of.numbers),
+        marks: from.list(&mut marks, of.marks),
+        map: settings(from),
+    };
+    map.are_runs_right(from)
+}
+
+// A map of so many cells that no record lists them: the height of cell 0 is 0, all their other numbers are 1, and
+// across every side is cell 0, so that six walls stand on each cell but that one.
+pub(crate) fn is_of_many<R: Read>(from: &mut R) -> bool {
+    let many = from.count(MANY);
+    let of = Lengths::read(from);
+    let mut cells = [1.0; 27 * MANY];
+    cells[0] = 0.0;
+    let neighbours = [0; 6 * MANY];
+    let mut corners = [0.0; FLOATS];
+    let mut numbers = [0.0; FLOATS];
+    let mut marks = [0; MARKS];
+    let map = Map {
+        cells: &cells[..27 * many],
+        neighbours: &neighbours[..6 * many],
+        fringe: &[],
+        customs: &[],
+        corners: from.list(&mut corners, of.corners),
+        numbers: from.list(&mut numbers, of.numbers),
+        marks: from.list(&mut marks, of.marks),
+        map: settings(from),
+    };
+    map.are_runs_right(from)
 }

@@ -5,9 +5,8 @@ use face::triangle::Counts;
 use face::vec::{Vec2, Vec3};
 use record::answers::Told;
 use record::digest::{Digest, Digested, Lanes};
-use record::lists::{Lists, ReadLists};
+use record::lists::{Lists, Places, ReadLists};
 use record::words::Recorded;
-use std::alloc::{AllocError, Global};
 use std::io::Read;
 
 // What is done to a stored mesh, or asked of it; any other number asks for the uv centroid.
@@ -48,13 +47,15 @@ fn in_two(p: Vec2) -> Vec3 {
 }
 
 // The answer of a call, and the value beside it.
-fn change_by(change: Change, counts: Counts, by: Vec3, lists: &mut Lists) -> (Answer, Vec3) {
-    let Lists {
-        vertices,
-        normals,
-        uvs,
-        indices,
-    } = lists;
+fn change_by(
+    change: Change,
+    counts: Counts,
+    by: Vec3,
+    vertices: &mut [f32],
+    normals: &[f32],
+    uvs: &mut [f32],
+    indices: &[u16],
+) -> (Answer, Vec3) {
     match change {
         Change::Scale => {
             let answer = mesh::stored::scale(counts, by, vertices, normals, uvs, indices);
@@ -85,13 +86,25 @@ fn change_by(change: Change, counts: Counts, by: Vec3, lists: &mut Lists) -> (An
 }
 
 // A call of a stored mesh.
-pub(crate) fn is_stored<R: Read>(from: &mut R, alloc: Global) -> Result<bool, AllocError> {
+pub(crate) fn is_stored<R: Read>(from: &mut R) -> bool {
     let change = Change::read(from);
     let counts = Counts::read(from);
     let by = Vec3::read(from);
-    let mut lists = from.lists(alloc)?;
-    let (answer, value) = change_by(change, counts, by, &mut lists);
+    let mut places = Places::default();
+    let Lists {
+        vertices,
+        normals,
+        uvs,
+        indices,
+    } = from.lists(&mut places);
+    let (answer, value) = change_by(change, counts, by, vertices, normals, uvs, indices);
     let right = Told::read(from) == Told::from(answer);
+    let lists = Lists {
+        vertices,
+        normals,
+        uvs,
+        indices,
+    };
     let digest = lists.digested(value.digested(Digest::default()));
-    Ok(Lanes::read(from) == Lanes::from(digest) && right)
+    Lanes::read(from) == Lanes::from(digest) && right
 }
