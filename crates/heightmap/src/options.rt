@@ -40,6 +40,8 @@ pub fn choice_of(job: crate::HeightMap, name: crate::Name, customs: &[u8]) -> Ch
     }
 }
 
+// Inlined, here and in the counts of a map: else the job and its lists are copied for each face.
+#[inline(always)]
 pub fn option_of(job: crate::HeightMap, name: crate::Name, lists: crate::Lists<'_>) -> FaceOptions
     ensures { result ≡ option_of job (seen lists.entry) name }
 {

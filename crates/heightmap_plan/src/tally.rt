@@ -119,6 +119,7 @@ pub(crate) fn cap_tally(job: HeightMap, lists: Lists<'_>, k: usize) -> Tally
 }
 
 // A side of a cell, or nothing where it does not stand.
+#[inline(always)]
 pub(crate) fn side_tally(job: HeightMap, lists: Lists<'_>, k: usize, d: u8) -> Tally
     ensures { result ≡ side_tally job (seen lists.entry) k d }
 {
