@@ -5,10 +5,12 @@ use mathlib.Core.Bool.{Bool, true, false, not, ◌&&◌, cond}
 use mathlib.Core.List.{List, [], ◌∷◌, ◌++◌}
 use Prim.Native.Nat.{ℕ, zero, suc, ◌+◌, ◌*◌, ◌/◌, ◌%◌, ◌≤◌, ◌<◌}
 use native.Mathlib.Nat.{le_trans, mul-le-mul, le-div_iff_mul-le, div-lt_iff_lt-mul, div-add-mod', mul_comm, add-zero, div-eq_of_eq-mul_left, mul-mod_left}
+use native.Mathlib.Numerals.{add-one}
 use native.Mathlib.Omega.{arith}
 use borrow.Author.Tests.{le-leb, lt-leb, leb-true, leb-false, eq-eqb, ne_eqb, eqb-true, eqb-false, ltb-true}
 use lib.Dec.{T, leb, ltb, eqb, lit≤, lit<, ltb→lt, nltb→le}
-use lib.ListN.{length, get_or}
+use lib.ListN.{length, get_or, drop, drop_of_length-le}
+use lib.Seq.{drop-cons}
 use Rattle.face.specs.declared.triangle.Counts.{Counts}
 use Rattle.answer.specs.declared.answer.Refusal.{Refusal}
 use Rattle.answer.specs.declared.answer.Refusal.TheVariants.{Shape, Range, Neighbour, Limit, Room, NoFace, Index, Empty, Sheet, Triangles, File, Bytes}
@@ -19,7 +21,21 @@ use Rattle.std.specs.Prelude.{Ok, Err}
 use Rattle.answer.specs.Checks.{every}
 use Rattle.answer.specs.Answers.{Roomy, Short, FirstShort, Lengthened, Past, room_code, code, need, number_of, need_of, after, given, limited, named, need_for, capped, told, held, lengths, room_for, roomed}
 
--- ---- a test of each element: one more item, and its test
+-- ---- a test of each element, read one by one: the first i passed, so the rest decide
+module _ {A : Type 0} (ok : A → Bool) (xs : List A) (z : A) where
+  abbrev pub Passed : ℕ → Type 0
+  Passed i = (i ≤ length xs) × (every ok (drop i xs) ≡ every ok xs)
+
+  pub passed-more : (i : ℕ) → Passed i → i < length xs → ok (get_or xs i z) ≡ true → Passed (i + 1)
+  passed-more i p h e = (omega arith, rw (add-one i) (rw (drop-cons xs i z h, e) at p.1))
+
+  pub passed-not : (i : ℕ) → Passed i → i < length xs → ok (get_or xs i z) ≡ false → false ≡ every ok xs
+  passed-not i p h e = rw (drop-cons xs i z h, e) at p.1
+
+  pub passed-all : (i : ℕ) → Passed i → length xs ≤ i → true ≡ every ok xs
+  passed-all i p h = rw (drop_of_length-le xs h) at p.1
+
+-- ---- the same by one more item behind, and its test
 pub every-push : {A : Type 0} (ok : A → Bool) (xs : List A) (x : A) → every ok (xs ++ (x ∷ [])) ≡ every ok xs && ok x
 every-push ok [] x = and-true (ok x)
   where

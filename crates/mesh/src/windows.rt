@@ -25,8 +25,8 @@ pub struct Window {
 pub fn faces_if_done(answer: Answer, faces: usize) -> Result<Faces, Refusal>
     ensures { result ≡ faces_by answer faces }
 {
-    let counts = answer?;
-    Ok(Faces { counts, faces })
+    let all = answer?;
+    Ok(Faces { counts: all, faces })
 }
 
 pub fn window_if_done(answer: Answer, start: Counts, size: Counts) -> Result<Window, Refusal>

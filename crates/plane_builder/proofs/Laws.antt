@@ -10,7 +10,7 @@ use Rattle.answer.specs.declared.answer.Refusal.TheVariants.{Shape, Range}
 use Rattle.answer.specs.Answers.{Answer}
 use Rattle.std.specs.Prelude.{Ok, Err}
 use Rattle.answer.specs.Answers.{given, limited, after}
-use Rattle.answer.proofs.Laws.{given-done, after-done}
+use Rattle.answer.proofs.Laws.{given-done}
 use Rattle.buffers.specs.Mesh.{Mesh, none, size_of, measure}
 use Rattle.buffers.specs.Laying.{Buffers, fits, lay, lay_all, lay_one, laid_if_fits}
 use Rattle.buffers.specs.Faces.{hexagon_mesh}
@@ -20,7 +20,7 @@ use Rattle.buffers.proofs.Faces.{FewIndices, standing-size, hexagon-size, laid_s
 use Rattle.mesh.proofs.Jobs.{whole_room, face-room}
 use Rattle.plane_builder.specs.declared.Plane.{Plane}
 use Rattle.plane_builder.specs.Cap.{cap_hexagon}
-use Rattle.plane_builder.specs.Plane.{Lists, stand_of, options_of, plane_mesh, plane_faces, shape_of, range_of, checked, planned, whole_answer, face_answer, built, faced}
+use Rattle.plane_builder.specs.Plane.{Lists, stand_of, options_of, plane_mesh, laid_if_done, plane_faces, shape_of, range_of, checked, planned, whole_answer, face_answer, built, faced}
 use Rattle.plane_builder.proofs.Caps.{cap-own, cap-few}
 
 -- ---- one face alone
@@ -59,17 +59,26 @@ module _ (job : Plane) (ls : Lists) where
 
   module _ (B : Buffers) where
     -- the one face is what a done build leaves, and what a done face call leaves
-    pub whole-left : (d : Counts) → whole_answer job ls B ≡ Ok d → laid_if_fits (plane_mesh job ls) none B ≡ built job ls B
-    whole-left d e =
-        alone-laid (plane_mesh job ls) B (whole_room (checked job ls) (plane_faces job ls) passes B d e)
-        ∙ after-done (whole_answer job ls B) B (lay_all (plane_faces job ls) none B) e
+    whole-done : (d : Counts) → whole_answer job ls B ≡ Ok d → laid_if_fits (plane_mesh job ls) none B ≡ lay_all (plane_faces job ls) none B
+    whole-done d e = alone-laid (plane_mesh job ls) B (whole_room (checked job ls) (plane_faces job ls) passes B d e)
 
-    pub face-left : (k : ℕ) (d : Counts) → face_answer job ls k B ≡ Ok d → laid_if_fits (plane_mesh job ls) none B ≡ faced job ls k B
-    face-left k d e =
+    face-done : (k : ℕ) (d : Counts) → face_answer job ls k B ≡ Ok d → laid_if_fits (plane_mesh job ls) none B ≡ lay_one (plane_faces job ls) k none B
+    face-done k d e =
         let r = face-room (checked job ls) (plane_faces job ls) passes k B d e in
         alone-laid (plane_mesh job ls) B r.0
         ∙ alone-one (plane_mesh job ls) none B k (omega (arith, r.1))
-        ∙ after-done (face_answer job ls k B) B (lay_one (plane_faces job ls) k none B) e
+
+    -- what a done answer lays decides what is left
+    left : (a : Answer) (C : Buffers) → ((d : Counts) → a ≡ Ok d → laid_if_fits (plane_mesh job ls) none B ≡ C) → laid_if_done a (plane_mesh job ls) B ≡ after a B C
+    left (Ok d) C h = h d refl
+    left (Err w) C h = refl
+
+    -- by the whole build's answer it is what the build leaves, and by a face call's what that leaves
+    pub whole-left : laid_if_done (whole_answer job ls B) (plane_mesh job ls) B ≡ built job ls B
+    whole-left = left (whole_answer job ls B) (lay_all (plane_faces job ls) none B) whole-done
+
+    pub face-left : (k : ℕ) → laid_if_done (face_answer job ls k B) (plane_mesh job ls) B ≡ faced job ls k B
+    face-left k = left (face_answer job ls k B) (lay_one (plane_faces job ls) k none B) (face-done k)
 
   -- ---- its triangles name its own vertices, and it has at most four indices a vertex
   pub plane-own : Own (plane_mesh job ls)

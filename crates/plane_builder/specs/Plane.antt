@@ -2,15 +2,15 @@
 use Rattle.std.specs.Prelude.{ℕ, Bool, false, ◌&&◌, List, [], ◌∷◌, length, Float, Result}
 use Rattle.answer.specs.declared.answer.Refusal.TheVariants.{Shape, Range}
 use Rattle.answer.specs.declared.answer.Refusal.{Refusal}
-use Rattle.answer.specs.Answers.{Answer, given}
+use Rattle.answer.specs.Answers.{Answer, given, after}
 use Rattle.answer.specs.Checks.{in_range2, all_in_range, exactly, names_option}
 use Rattle.placement.specs.declared.options.FaceOptions.{FaceOptions}
 use Rattle.placement.specs.declared.placement.Choice3.TheVariants.{Absent}
 use Rattle.placement.specs.declared.placement.Stand.{Stand}
 use Rattle.placement.specs.Options.{entry_count, is_table, option_at}
 use Rattle.placement.specs.Placing.{stand_by, settled, placement_in_range}
-use Rattle.buffers.specs.Mesh.{Mesh}
-use Rattle.buffers.specs.Laying.{Buffers}
+use Rattle.buffers.specs.Mesh.{Mesh, none}
+use Rattle.buffers.specs.Laying.{Buffers, laid_if_fits}
 use Rattle.buffers.specs.Lent.{Shown}
 use Rattle.mesh.specs.declared.windows.Faces.{Faces}
 use Rattle.mesh.specs.declared.windows.Window.{Window}
@@ -40,6 +40,10 @@ options_of job ls = option_at ls.numbers ls.marks job.option
 
 abbrev pub plane_mesh : Plane → Lists → Mesh
 plane_mesh job ls = cap_mesh (stand_of job) ls.corners (options_of job ls)
+
+-- R10: a mesh laid where it fits, if the answer is done
+abbrev pub laid_if_done : Answer → Mesh → Buffers → Buffers
+laid_if_done a m B = after a B (laid_if_fits m none B)
 
 -- R15
 abbrev pub plane_faces : Plane → Lists → List Mesh

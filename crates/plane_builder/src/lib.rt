@@ -6,10 +6,8 @@ pub mod cap;
 
 ghost use Rattle.std.specs.Prelude.{◌≡◌, ◌&&◌};
 ghost use Rattle.answer.specs.Checks.{all_in_range};
-ghost use Rattle.buffers.specs.Mesh.{none};
-ghost use Rattle.buffers.specs.Laying.{laid_if_fits};
 ghost use Rattle.buffers.specs.Lent.{entering, Become};
-ghost use Rattle.plane_builder.specs.Plane.{lent, plane_mesh, shape_of, place_of, planned, whole_answer, face_answer, built, faced, faces_told, window_told};
+ghost use Rattle.plane_builder.specs.Plane.{lent, plane_mesh, laid_if_done, shape_of, place_of, planned, whole_answer, face_answer, built, faced, faces_told, window_told};
 
 use answer::answer::{Answer, Refusal};
 use face::triangle::{Counts, IndexPlace, VertexNumber};
@@ -94,8 +92,9 @@ pub fn window(
     mesh::windows::window_of_all(answer)
 }
 
-// The one face, from the first place on.
+// The one face, from the first place on, where the answer is done.
 fn put(
+    answer: Answer,
     job: Plane,
     corners: &[f32],
     numbers: &[f32],
@@ -105,19 +104,24 @@ fn put(
     uvs: &mut [f32],
     indices: &mut [u16],
 )
-    ensures { Become (laid_if_fits (plane_mesh job (lent corners numbers marks)) none) vertices normals uvs indices }
+    ensures { Become (laid_if_done answer (plane_mesh job (lent corners numbers marks))) vertices normals uvs indices }
 {
-    let o = placement::options::option_at(numbers, marks, job.option);
-    let stand = placement::placement::stand_by(
-        Choice3::Absent,
-        false,
-        placement::placement::settle(job.placement, job.position),
-    );
-    let start = Counts {
-        vertices: VertexNumber(0),
-        indices: IndexPlace(0),
-    };
-    cap::put_cap(stand, corners, o, start, vertices, normals, uvs, indices);
+    match answer {
+        Err(_) => {}
+        Ok(_) => {
+            let o = placement::options::option_at(numbers, marks, job.option);
+            let stand = placement::placement::stand_by(
+                Choice3::Absent,
+                false,
+                placement::placement::settle(job.placement, job.position),
+            );
+            let start = Counts {
+                vertices: VertexNumber(0),
+                indices: IndexPlace(0),
+            };
+            cap::put_cap(stand, corners, o, start, vertices, normals, uvs, indices);
+        }
+    }
 }
 
 pub fn build(
@@ -133,17 +137,17 @@ pub fn build(
     ensures answer { result ≡ whole_answer job (lent corners numbers marks) (entering vertices normals uvs indices) }
     ensures buffers { Become (built job (lent corners numbers marks)) vertices normals uvs indices }
 {
-    let whole = answer::answer::room(
+    let answer = answer::answer::room(
         plan(job, corners, numbers, marks),
         vertices.len(),
         normals.len(),
         uvs.len(),
         indices.len(),
-    )?;
-    put(
-        job, corners, numbers, marks, vertices, normals, uvs, indices,
     );
-    Ok(whole)
+    put(
+        answer, job, corners, numbers, marks, vertices, normals, uvs, indices,
+    );
+    answer
 }
 
 pub fn face(
@@ -160,15 +164,15 @@ pub fn face(
     ensures answer { result ≡ face_answer job (lent corners numbers marks) number (entering vertices normals uvs indices) }
     ensures buffers { Become (faced job (lent corners numbers marks) number) vertices normals uvs indices }
 {
-    let done = answer::answer::room(
+    let answer = answer::answer::room(
         answer::answer::name(plan(job, corners, numbers, marks), number, 1),
         vertices.len(),
         normals.len(),
         uvs.len(),
         indices.len(),
-    )?;
-    put(
-        job, corners, numbers, marks, vertices, normals, uvs, indices,
     );
-    Ok(done)
+    put(
+        answer, job, corners, numbers, marks, vertices, normals, uvs, indices,
+    );
+    answer
 }
