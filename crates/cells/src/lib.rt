@@ -1,5 +1,5 @@
 // The cells of a height map as a list of records, loaded whole into the two flat lists that every call of a map takes.
-// The functions that take the records are thin: what a cell's numbers are, and where they go, is decided by value.
+// The functions that take the records are thin: what a cell's numbers are, and where they go, is decided for one cell.
 #![tactic(auto)]
 
 ghost use Rattle.std.specs.Prelude.{◌≡◌, ◌<◌, ◌≤◌, ◌+◌, ◌*◌, length};

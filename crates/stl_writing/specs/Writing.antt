@@ -56,7 +56,7 @@ write_tested c v n t is l =
 abbrev pub write_answer : Counts → Buffers → ℕ → Answer
 write_answer c B l = write_tested c (length B.vertices) (length B.normals) (length B.uvs) B.indices l
 
--- L2b: the mesh's counts and the length of its file, 0 where refused
+-- L2b: the mesh's counts and the length of its file
 abbrev pub filed_by : Answer → ℕ → Result Filed Refusal
 filed_by (Ok c) n = Ok (record { counts = c; bytes = n })
 filed_by (Err e) n = Err e
